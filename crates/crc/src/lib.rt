@@ -1,0 +1,1 @@
+// CRC-32 as the ESP ROM computes it.

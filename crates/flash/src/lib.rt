@@ -1,0 +1,1 @@
+// Programming a sector in four-byte units.

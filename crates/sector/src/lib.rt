@@ -1,0 +1,91 @@
+// The sector's layout (raw.rs): page states, the entry map, item types, CRCs and the hash.
+
+// What a page is for; Corrupt also for any word that is none of these.
+pub enum PageState {
+    Uninitialized,
+    Active,
+    Full,
+    Freeing,
+    Corrupt,
+    Invalid,
+}
+
+// The two bits of an entry in the map.
+pub enum EntryMapState {
+    Empty,
+    Written,
+    Erased,
+    Illegal,
+}
+
+// The thirteen types. Any also stands for a byte that is none of them.
+pub enum ItemType {
+    U8,
+    I8,
+    U16,
+    I16,
+    U32,
+    I32,
+    U64,
+    I64,
+    Sized,
+    Blob,
+    BlobData,
+    BlobIndex,
+    Any,
+}
+
+// What a type byte decides: the type that it names, a primitive's width (0 for other types), and whether a
+// payload lies behind the item's header.
+pub struct Kind {
+    pub named: ItemType,
+    pub width: u8,
+    pub payload: bool,
+}
+
+// What a call answers; `numberOf` of specs/ has document 01's numbers.
+pub enum Answer {
+    Done,
+    // The image is not 4,096 bytes.
+    BadImage,
+    // The record is not fit to use.
+    BadRecord,
+    // The page's state does not allow the call.
+    WrongState,
+    // The type is not one of the call's, a single's span is not 1, or a variable item is in namespace 0.
+    BadRequest,
+    // The span is over 126.
+    ValueTooLong,
+    // The span is over the free entries.
+    PageFull,
+    // The entry is all 0xFF, or its CRC is wrong.
+    KeyNotFound,
+    // Data or width was asked of another type; with the type byte as loaded.
+    ItemTypeMismatch(u8),
+    // An index, a span, a size or an image that cannot be.
+    CorruptedData,
+    // Erasing names an entry that is not Written in the record.
+    NotWritten,
+    // The call was told to stop before its last unit, and did.
+    Stopped,
+}
+
+// A primitive's width; 0 where the answer is not Done.
+pub struct WidthAnswer {
+    pub answer: Answer,
+    pub width: u8,
+}
+
+// An entry's state; Erased, whose bits are 0, where the answer is not Done.
+pub struct StateAnswer {
+    pub answer: Answer,
+    pub state: EntryMapState,
+}
+
+// How many of the 126 entries are in each state.
+pub struct Statistics {
+    pub empty: u32,
+    pub written: u32,
+    pub erased: u32,
+    pub illegal: u32,
+}
