@@ -61,6 +61,18 @@ unpack [] = []
 unpack (byte ∷ bytes) =
     stateOfBits (byte % 4) ∷ stateOfBits (byte / 4 % 4) ∷ stateOfBits (byte / 16 % 4) ∷ stateOfBits (byte / 64 % 4) ∷ unpack bytes
 
+-- a byte of four states, lowest bits first
+abbrev pub packed : EntryMapState → EntryMapState → EntryMapState → EntryMapState → ℕ
+packed a b c d = ((bitsOf d * 4 + bitsOf c) * 4 + bitsOf b) * 4 + bitsOf a
+
+-- the bytes of a map, four states in each; one to three states over make no byte
+abbrev pub pack : List EntryMapState → List ℕ
+pack [] = []
+pack (a ∷ []) = []
+pack (a ∷ b ∷ []) = []
+pack (a ∷ b ∷ c ∷ []) = []
+pack (a ∷ b ∷ c ∷ d ∷ states) = packed a b c d ∷ pack states
+
 -- the states of the page's entries: the last two of the map's 128 belong to none
 abbrev pub statesOf : List ℕ → List EntryMapState
 statesOf map = take entriesPerPage (unpack map)

@@ -1,0 +1,1 @@
+// Copying an item in from another sector (page.rs, copy_item_from).

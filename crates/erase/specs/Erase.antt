@@ -1,0 +1,53 @@
+-- Erase (01, 'Erase'): checks in order, plan, new record.
+--
+-- Assumes nothing.
+use mathlib.Core.Bool.{Bool, true, false, _||_, not}
+use mathlib.Core.List.{List, [], _∷_}
+use Prim.Native.Nat.{ℕ, _+_}
+use lib.Dec.{eqb, ltb}
+use lib.ListN.{take, drop}
+use Rattle.flash.specs.Flash.{Unit4, every}
+use Rattle.page.specs.declared.Outcome.{Outcome}
+use Rattle.page.specs.declared.ThinPage.{ThinPage}
+use Rattle.page.specs.Record.{withErased}
+use Rattle.page.specs.Writing.{badImage, badRecord, outcome, imageAfter}
+use Rattle.sector.specs.declared.Answer.the-variants.{WrongState, CorruptedData, NotWritten}
+use Rattle.sector.specs.declared.EntryMapState.the-variants.{Written, Erased}
+use Rattle.sector.specs.declared.PageState.{PageState}
+use Rattle.sector.specs.declared.PageState.the-variants.{Uninitialized, Active, Full, Freeing, Corrupt, Invalid}
+use Rattle.sector.specs.Answers.{Check}
+use Rattle.sector.specs.Layout.{entriesPerPage}
+use Rattle.sector.specs.Map.{statesOf, sameState, markRange, mapUnits}
+
+-- Active, Full or Freeing
+abbrev pub isErasable : PageState → Bool
+isErasable Uninitialized = false
+isErasable Active = true
+isErasable Full = true
+isErasable Freeing = true
+isErasable Corrupt = false
+isErasable Invalid = false
+
+-- all the entries it names are Written in the record
+abbrev pub allWritten : List ℕ → ℕ → ℕ → Bool
+allWritten map index span = every (sameState Written) (take span (drop index (statesOf map)))
+
+-- span 0 or index + span over 126; an entry not Written
+abbrev pub eraseChecks : List ℕ → ThinPage → ℕ → ℕ → List Check
+eraseChecks image page index span =
+    badImage image
+    ∷ badRecord page
+    ∷ (not (isErasable (page .state)), WrongState)
+    ∷ (eqb span 0 || ltb entriesPerPage (index + span), CorruptedData)
+    ∷ (not (allWritten (page .map) index span), NotWritten)
+    ∷ []
+
+-- marks alone
+unfoldable pub erasePlan : ThinPage → ℕ → ℕ → List Unit4
+erasePlan page index span = mapUnits index span (markRange Erased index span (page .map))
+
+unfoldable pub erase : List ℕ → ThinPage → ℕ → ℕ → Outcome
+erase image page index span = outcome (eraseChecks image page index span) false page (withErased page index span)
+
+unfoldable pub eraseImage : List ℕ → ThinPage → ℕ → ℕ → List ℕ
+eraseImage image page index span = imageAfter (eraseChecks image page index span) (erasePlan page index span) image

@@ -1,0 +1,2 @@
+pub mod Erase
+pub mod Purge

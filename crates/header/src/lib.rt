@@ -1,0 +1,1 @@
+// The calls that write the page header (page.rs): initialise and mark full.

@@ -1,0 +1,176 @@
+-- Opening (01, 'Opening'): which pages open, the map units that it programs, the record that it hands back.
+--
+-- In order: the header's verdict; the kept items and the list; the new map and its units, in two passes; answer and image.
+-- The passes are so that a cut during opening, opened again, gives what one whole opening gives: first the upper bit of every entry
+-- that becomes Erased and is not the header of a refused payload item, then the new map. Only units that change are programmed.
+-- Assumes nothing.
+use mathlib.Core.Bool.{Bool, true, false, _&&_, not, cond}
+use mathlib.Core.List.{List, [], _∷_, _++_}
+use Prim.Native.Nat.{ℕ, zero, suc, _+_, _*_}
+use lib.Dec.{eqb}
+use lib.ListN.{length, take, drop, getD}
+use Rattle.flash.specs.Flash.{Unit4, units, run, allOnes}
+use Rattle.page.specs.declared.Listed.{Listed}
+use Rattle.page.specs.declared.Outcome.{Outcome}
+use Rattle.page.specs.declared.ThinPage.{ThinPage}
+use Rattle.page.specs.Record.{isUninitialized, padded, uninitialized}
+use Rattle.page.specs.Writing.{answered}
+use Rattle.sector.specs.declared.Answer.{Answer}
+use Rattle.sector.specs.declared.Answer.the-variants.{Done, BadImage, CorruptedData}
+use Rattle.sector.specs.declared.EntryMapState.{EntryMapState}
+use Rattle.sector.specs.declared.EntryMapState.the-variants.{Empty, Written, Erased, Illegal}
+use Rattle.sector.specs.declared.PageState.{PageState}
+use Rattle.sector.specs.declared.PageState.the-variants.{Uninitialized, Active, Full, Freeing, Corrupt, Invalid}
+use Rattle.sector.specs.Header.{stateOfWord, headerCrc}
+use Rattle.sector.specs.Item.{hashOfItem}
+use Rattle.sector.specs.Layout.{sectorSize, entriesPerPage, mapOffset, field, mapOf, entriesOf, stateWord, sequenceOf, versionOf, storedHeaderCrc, namespaceOf}
+use Rattle.sector.specs.Map.{statesOf, unpack, pack, sameState, countIn}
+use Rattle.opening.specs.Reading.{Verdict, NotAnItem, RefusedEntry, RefusedItem, Kept, verdictAt, stepsOver, Item, item, keptFrom, openedStates}
+
+-- ---- the header
+
+-- what opening makes of a header: an erased page, a page that opens, or the first rule that refused it
+pub data HeaderVerdict : Type 0 where
+  Blank Opens WrongPageState WrongVersion WrongHeaderCrc : HeaderVerdict
+
+-- Active, Full or Freeing
+abbrev pub isOpenState : PageState → Bool
+isOpenState Uninitialized = false
+isOpenState Active = true
+isOpenState Full = true
+isOpenState Freeing = true
+isOpenState Corrupt = false
+isOpenState Invalid = false
+
+-- state before version before CRC
+unfoldable pub headerVerdictOf : List ℕ → HeaderVerdict
+headerVerdictOf image =
+    cond (isUninitialized (stateOfWord (stateWord image)) && allOnes image) Blank
+    (cond (not (isOpenState (stateOfWord (stateWord image)))) WrongPageState
+    (cond (not (eqb (versionOf image) 0xFE)) WrongVersion
+    (cond (not (eqb (headerCrc image) (storedHeaderCrc image))) WrongHeaderCrc
+    Opens)))
+
+-- ---- items
+
+-- what the page's reading keeps
+unfoldable pub keptItems : List ℕ → List Item
+keptItems image = keptFrom zero zero (statesOf (mapOf image)) (entriesOf image)
+
+abbrev pub headerOf : List (List ℕ) → List ℕ
+headerOf entries = getD entries 0 []
+
+-- kept items outside namespace 0, by rising index
+abbrev pub listedItems : List Item → List Listed
+listedItems [] = []
+listedItems (item i entries ∷ items) =
+    cond (eqb (namespaceOf (headerOf entries)) 0)
+    (listedItems items)
+    (record { hash = hashOfItem (headerOf entries); index = i } ∷ listedItems items)
+
+-- ---- the new map
+
+-- the two states that belong to no entry stay
+unfoldable pub openedMap : List ℕ → List ℕ
+openedMap image =
+    pack (openedStates (statesOf (mapOf image)) (entriesOf image) ++ drop entriesPerPage (unpack (mapOf image)))
+
+abbrev pub isRefusedItem : Verdict → Bool
+isRefusedItem NotAnItem = false
+isRefusedItem (RefusedEntry reason) = false
+isRefusedItem (RefusedItem reason k) = true
+isRefusedItem (Kept k) = false
+
+-- which entries are headers of refused payload items
+abbrev pub refusedHeaders : ℕ → List EntryMapState → List (List ℕ) → List Bool
+refusedHeaders k [] entries = []
+refusedHeaders k (s ∷ states) [] = []
+refusedHeaders zero (s ∷ states) (entry ∷ entries) =
+    isRefusedItem (verdictAt s entry states entries)
+    ∷ refusedHeaders (stepsOver (verdictAt s entry states entries)) states entries
+refusedHeaders (suc k) (s ∷ states) (entry ∷ entries) = false ∷ refusedHeaders k states entries
+
+-- the upper bit cleared
+abbrev pub upperCleared : EntryMapState → EntryMapState
+upperCleared Empty = Illegal
+upperCleared Written = Erased
+upperCleared Erased = Erased
+upperCleared Illegal = Illegal
+
+-- the states after the first pass, from those before opening, those that it leaves, and the refused headers
+abbrev pub firstPass : List EntryMapState → List EntryMapState → List Bool → List EntryMapState
+firstPass [] news headers = []
+firstPass (s ∷ states) [] headers = s ∷ states
+firstPass (s ∷ states) (new ∷ news) [] = s ∷ states
+firstPass (s ∷ states) (new ∷ news) (header ∷ headers) =
+    cond (sameState new Erased && not header) (upperCleared s) s ∷ firstPass states news headers
+
+-- the map after the first pass
+unfoldable pub firstMap : List ℕ → List ℕ
+firstMap image =
+    let states = statesOf (mapOf image) in
+    pack
+    (firstPass states (openedStates states (entriesOf image)) (refusedHeaders zero states (entriesOf image))
+    ++ drop entriesPerPage (unpack (mapOf image)))
+
+-- the same bytes
+abbrev pub sameBytes : List ℕ → List ℕ → Bool
+sameBytes [] ys = eqb (length ys) 0
+sameBytes (x ∷ xs) [] = false
+sameBytes (x ∷ xs) (y ∷ ys) = eqb x y && sameBytes xs ys
+
+-- unit j of a map, of which there are eight
+abbrev pub mapUnit : ℕ → List ℕ → List ℕ
+mapUnit j map = field (4 * j) 4 map
+
+-- the units from j on, n of them, in which two maps differ, with the bytes of the second
+unfoldable pub changedUnits : ℕ → ℕ → List ℕ → List ℕ → List Unit4
+changedUnits j zero old new = []
+changedUnits j (suc n) old new =
+    cond (sameBytes (mapUnit j old) (mapUnit j new)) [] (units (mapOffset + 4 * j) (mapUnit j new)) ++ changedUnits (suc j) n old new
+
+-- only the map is programmed
+unfoldable pub openingPlan : List ℕ → List Unit4
+openingPlan image =
+    changedUnits 0 8 (mapOf image) (firstMap image) ++ changedUnits 0 8 (firstMap image) (openedMap image)
+
+-- ---- the call
+
+-- used and erased count the map
+unfoldable pub openedPage : List ℕ → ThinPage
+openedPage image =
+    record {
+      state = stateOfWord (stateWord image);
+      sequence = sequenceOf image;
+      version = versionOf image;
+      crc = storedHeaderCrc image;
+      map = openedMap image;
+      used = countIn Written (statesOf (openedMap image));
+      erased = countIn Erased (statesOf (openedMap image));
+      len = length (listedItems (keptItems image));
+      list = padded (listedItems (keptItems image));
+    }
+
+abbrev pub answerFor : HeaderVerdict → List ℕ → Outcome
+answerFor Blank image = answered Done uninitialized
+answerFor Opens image = answered Done (openedPage image)
+answerFor WrongPageState image = answered CorruptedData uninitialized
+answerFor WrongVersion image = answered CorruptedData uninitialized
+answerFor WrongHeaderCrc image = answered CorruptedData uninitialized
+
+abbrev pub planFor : HeaderVerdict → List ℕ → List Unit4
+planFor Blank image = []
+planFor Opens image = openingPlan image
+planFor WrongPageState image = []
+planFor WrongVersion image = []
+planFor WrongHeaderCrc image = []
+
+-- a refused opening hands back the Uninitialized record
+unfoldable pub opening : List ℕ → Outcome
+opening image =
+    cond (eqb (length image) sectorSize) (answerFor (headerVerdictOf image) image) (answered BadImage uninitialized)
+
+-- and changes nothing
+unfoldable pub openingImage : List ℕ → List ℕ
+openingImage image =
+    cond (eqb (length image) sectorSize) (run (planFor (headerVerdictOf image) image) image) image
