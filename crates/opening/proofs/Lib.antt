@@ -5,3 +5,5 @@ pub mod Reopened
 pub mod Closed
 pub mod OpenedFront
 pub mod Cuts
+pub mod KeptItem
+pub mod ErasedBytes
