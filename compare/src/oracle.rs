@@ -1,6 +1,7 @@
 //! The calls of the original, each on the inputs of a case, with what comes back put as the boundary has it.
 
-use std::panic::{AssertUnwindSafe, catch_unwind};
+use std::panic::{AssertUnwindSafe, catch_unwind, set_hook, take_hook};
+use std::sync::atomic::{AtomicBool, Ordering};
 
 use crate::Key;
 use crate::Nvs;
@@ -15,6 +16,18 @@ use crate::record::{self, Listed, Record};
 use crate::u24::u24;
 
 const SOURCE: usize = SECTOR;
+
+/// Whether the Rust runs: a panic in it is an outcome, and nothing is printed of it.
+static RUNNING: AtomicBool = AtomicBool::new(false);
+
+pub fn hush_panics() {
+    let usual = take_hook();
+    set_hook(Box::new(move |panic| {
+        if !RUNNING.load(Ordering::Relaxed) {
+            usual(panic);
+        }
+    }));
+}
 
 /// The Rust over its flash. After a call, `flash.log` has the units in their order and `record` the page's record.
 #[derive(Default)]
@@ -33,9 +46,11 @@ impl Oracle {
         if case.call == Call::CopyIn {
             self.flash.bytes[SOURCE..].copy_from_slice(&case.source);
         }
+        RUNNING.store(true, Ordering::Relaxed);
         if catch_unwind(AssertUnwindSafe(|| self.call(case, outcome))).is_err() {
             outcome.returned = PANICKED;
         }
+        RUNNING.store(false, Ordering::Relaxed);
         if case.call.writes_image() {
             outcome.image.copy_from_slice(&self.flash.bytes[..SECTOR]);
         }
@@ -286,4 +301,14 @@ fn number_of(state: &ThinPageState) -> u8 {
         ThinPageState::Corrupt => record::CORRUPT,
         ThinPageState::Invalid => record::INVALID,
     }
+}
+
+/// The CRC of an item whose type byte is taken as loaded: 0xFF where it is unknown.
+pub fn loaded_item_crc(item: &[u8; ITEM_SIZE]) -> u32 {
+    item_of(item).calculate_crc32(software_crc32)
+}
+
+/// The CRC of bytes, from 0xFFFFFFFF as all uses start.
+pub fn crc(bytes: &[u8]) -> u32 {
+    software_crc32(u32::MAX, bytes)
 }

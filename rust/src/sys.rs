@@ -10,7 +10,7 @@ unsafe extern "C" {
 
     pub fn nvs_header_crc(header: *const u8, header_length: usize) -> u32;
 
-    pub fn nvs_hash(namespace: u8, key: *const u8, key_length: usize, chunk: u8) -> u32;
+    pub fn nvs_hash(namespace_index: u8, key: *const u8, key_length: usize, chunk: u8) -> u32;
 
     pub fn nvs_type_byte(byte: u8) -> u8;
 
@@ -68,7 +68,7 @@ unsafe extern "C" {
         image_length: usize,
         record: *mut u8,
         record_length: usize,
-        namespace: u8,
+        namespace_index: u8,
         type_byte: u8,
         span: u64,
         chunk: u8,
@@ -95,7 +95,7 @@ unsafe extern "C" {
         image_length: usize,
         record: *mut u8,
         record_length: usize,
-        namespace: u8,
+        namespace_index: u8,
         type_byte: u8,
         chunk: u8,
         key: *const u8,
@@ -132,6 +132,6 @@ unsafe extern "C" {
         image_length: usize,
         record: *mut u8,
         record_length: usize,
-        namespace: u8,
+        namespace_index: u8,
     ) -> u32;
 }
