@@ -56,7 +56,7 @@ fn behind_zero(list: [Listed; 126], len: usize) -> bool
     true
 }
 
-fn is_uninitialized(state: PageState) -> bool
+pub fn is_uninitialized(state: PageState) -> bool
     ensures { λ r. ⌜ r ≡ isUninitialized state ⌝ }
 {
     match state {
@@ -120,7 +120,7 @@ pub fn fit_to_use(page: ThinPage) -> bool
     ensures { λ r. ⌜ r ≡ fitToUse page ⌝ }
 {
     let next_free = page.used as usize + page.erased as usize;
-    if next_free > map::ENTRIES_PER_PAGE {
+    if next_free > sector::ENTRIES_PER_PAGE {
         return false;
     }
     let len = page.len as usize;
