@@ -47,19 +47,18 @@ fn main() -> ExitCode {
     hush_panics();
     let words: Vec<String> = std::env::args().skip(1).collect();
     let words: Vec<&str> = words.iter().map(String::as_str).collect();
-    let passed = match words[..] {
-        ["--differences"] => Ok(differences::print()),
-        ["--bench"] => Ok(bench::print()),
-        ["--replay", path] => replay(path),
-        _ => options(&words).and_then(compare),
-    };
-    match passed {
-        Ok(()) => ExitCode::SUCCESS,
-        Err(message) => {
-            eprintln!("{message}");
-            ExitCode::FAILURE
-        }
+    let mut passed = Ok(());
+    match words[..] {
+        ["--differences"] => differences::print(),
+        ["--bench"] => bench::print(),
+        ["--replay", path] => passed = replay(path),
+        _ => passed = options(&words).and_then(compare),
     }
+    let Err(message) = passed else {
+        return ExitCode::SUCCESS;
+    };
+    eprintln!("{message}");
+    ExitCode::FAILURE
 }
 
 fn options(words: &[&str]) -> Result<Options, String> {

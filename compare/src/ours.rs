@@ -40,13 +40,11 @@ impl Ours {
     pub fn run(&self, case: &Case, stop: u64, outcome: &mut Outcome) {
         outcome.before(case);
         let stop = if self.fault == Some(Fault::BlankTailCounted) { one_unit_late(case, stop) } else { stop };
-        outcome.returned = if case.call.writes_image() {
-            write(case, stop, outcome)
-        } else if case.call.has_answer() {
-            read(case, outcome)
-        } else {
-            number(case)
-        };
+        // What the buffer held before has to be gone.
+        if case.call.has_answer() {
+            outcome.answer.fill(0xA5);
+        }
+        call(case, stop, outcome);
         match self.fault {
             Some(Fault::WrongMark) => wrong_mark(case, outcome),
             Some(Fault::FullBeforeTooLong) if outcome.returned == VALUE_TOO_LONG => outcome.returned = PAGE_FULL,
@@ -55,12 +53,24 @@ impl Ours {
     }
 }
 
+/// The call alone, on what stands in the outcome's buffers.
+fn call(case: &Case, stop: u64, outcome: &mut Outcome) {
+    outcome.returned = if case.call.writes_image() {
+        write(case, stop, outcome)
+    } else if case.call.has_answer() {
+        read(case.call, case, outcome)
+    } else {
+        number(case.call, case)
+    };
+}
+
 /// The calls that hand back a number alone.
-fn number(case: &Case) -> u32 {
+#[inline(always)]
+pub fn number(call: Call, case: &Case) -> u32 {
     let data = &case.data;
     // Safety: each pointer goes with the length of its slice.
     unsafe {
-        match case.call {
+        match call {
             Call::Crc32 => sys::nvs_crc32(case.number, data.as_ptr(), data.len()),
             Call::ItemCrc => sys::nvs_item_crc(data.as_ptr(), data.len()),
             Call::HeaderCrc => sys::nvs_header_crc(data.as_ptr(), data.len()),
@@ -72,17 +82,16 @@ fn number(case: &Case) -> u32 {
 }
 
 /// The calls with an answer.
-fn read(case: &Case, outcome: &mut Outcome) -> u32 {
+#[inline(always)]
+pub fn read(call: Call, case: &Case, outcome: &mut Outcome) -> u32 {
     let (image, image_length) = (case.image.as_ptr(), case.image.len());
     let (map, map_length) = (case.record.map.as_ptr(), case.record.map.len());
     let entries = &case.image[64..];
-    // What the buffer held before has to be gone.
-    outcome.answer.fill(0xA5);
     let (answer, length) = (outcome.answer.as_mut_ptr(), outcome.answer.len());
     let (output, output_length) = (outcome.output.as_mut_ptr(), outcome.output.len());
     // Safety: each pointer goes with the length of its slice, and answer and output are buffers of their own.
     unsafe {
-        match case.call {
+        match call {
             Call::Width => sys::nvs_width(case.type_byte, answer, length),
             Call::Load => sys::nvs_load(image, image_length, case.index, answer, length),
             Call::RawRead => sys::nvs_raw_read(image, image_length, case.index, answer, length),
@@ -98,7 +107,7 @@ fn read(case: &Case, outcome: &mut Outcome) -> u32 {
 }
 
 /// The calls that may write an image.
-fn write(case: &Case, stop: u64, outcome: &mut Outcome) -> u32 {
+pub fn write(case: &Case, stop: u64, outcome: &mut Outcome) -> u32 {
     let (image, size) = (outcome.image.as_mut_ptr(), outcome.image.len());
     let (record, length) = (outcome.record.as_mut_ptr(), outcome.record.len());
     let (key, key_length) = (case.key.as_ptr(), case.key.len());
