@@ -236,57 +236,40 @@ fn plain(namespace: u8, span: u8) -> Item {
 
 fn openings() -> Vec<Row> {
     let payload = [0x5A; 32];
-    let whole = blob(1, 32, &payload);
-    let with_header = |change: fn(&mut Case)| {
-        with(page_of_singles(0), Call::Open, |case| {
-            case.record = Record::default();
-            change(case);
-        })
-    };
+    let (whole, wrong_sum, too_big) = (blob(1, 32, &payload), blob(1, 32, &[]), blob(1, 33, &payload));
+    let on = |marks: &[u8], item: Item| page_to_open(marks, item, &payload);
+    let alone = |marks: &[u8], item: Item| page_to_open(marks, item, &[]);
+    let mut rows = vec![
+        ("entry 0 Empty, a whole U8 in it", "Erased: bytes under an Empty mark", alone(&[], plain(1, 1))),
+        ("entries 0 and 1 Empty, a whole blob in them", "both Erased", on(&[], whole)),
+        ("blob of span 2 Written, entry 1 Empty", "kept, entry 1 becomes Written", on(&[WRITTEN], whole)),
+        ("blob of span 2 Written, payload CRC wrong", "both Erased", on(&[WRITTEN; 2], wrong_sum)),
+        ("blob of span 2 Written, size 33", "both Erased", on(&[WRITTEN; 2], too_big)),
+        ("U8 of span 2, both Written", "both Erased", on(&[WRITTEN; 2], plain(1, 2))),
+        ("U8 of span 2, entry 1 Empty and blank", "Erased, entry 1 is free", alone(&[WRITTEN], plain(1, 2))),
+        ("entry 0 Illegal, blank", "Erased", alone(&[ILLEGAL], [0xFF; ITEM])),
+        ("blob of span 2 in namespace 0, both Written", "kept, not listed", on(&[WRITTEN; 2], blob(0, 32, &payload))),
+    ];
+    rows.extend(headers());
+    rows
+}
+
+fn headers() -> Vec<Row> {
+    const REFUSED: &str = "CorruptedData";
+    let blank = |change: fn(&mut Case)| with(page_to_open(&[], [0xFF; ITEM], &[]), Call::Open, change);
+    let old_edition = blank(|case| {
+        case.image[8] = 0xFF;
+        let sum = compare::oracle::crc(&case.image[4..28]);
+        case.image[28..32].copy_from_slice(&sum.to_le_bytes());
+    });
+    let headless = blank(|case| {
+        case.image[..64].fill(0xFF);
+        case.image[64] = 0;
+    });
     vec![
-        ("entry 0 Empty, holds a whole U8", "Erased: bytes under an Empty mark", page_to_open(&[], plain(1, 1), &[])),
-        ("entry 0 Empty, a whole blob of span 2", "both Erased", page_to_open(&[], whole, &payload)),
-        (
-            "blob of span 2 Written, entry 1 Empty",
-            "kept, entry 1 becomes Written",
-            page_to_open(&[WRITTEN], whole, &payload),
-        ),
-        (
-            "blob of span 2 Written, payload CRC wrong",
-            "both Erased",
-            page_to_open(&[WRITTEN; 2], blob(1, 32, &[]), &payload),
-        ),
-        (
-            "blob of span 2 Written, size 33",
-            "both Erased",
-            page_to_open(&[WRITTEN; 2], blob(1, 33, &payload), &payload),
-        ),
-        ("U8 of span 2, both Written", "both Erased", page_to_open(&[WRITTEN; 2], plain(1, 2), &[0; 32])),
-        ("U8 of span 2, entry 1 Empty", "Erased, and entry 1 free", page_to_open(&[WRITTEN], plain(1, 2), &[])),
-        ("entry 0 Illegal, blank", "Erased", page_to_open(&[ILLEGAL], [0xFF; ITEM], &[])),
-        (
-            "blob of namespace 0, both Written",
-            "kept, not listed",
-            page_to_open(&[WRITTEN; 2], blob(0, 32, &payload), &payload),
-        ),
-        (
-            "version 0xFF, header CRC right",
-            "CorruptedData",
-            with_header(|case| {
-                case.image[8] = 0xFF;
-                let sum = compare::oracle::crc(&case.image[4..28]);
-                case.image[28..32].copy_from_slice(&sum.to_le_bytes());
-            }),
-        ),
-        ("header CRC wrong", "CorruptedData", with_header(|case| case.image[28] ^= 1)),
-        ("state word 0", "CorruptedData", with_header(|case| case.image[..4].fill(0))),
-        (
-            "header blank, byte 64 programmed",
-            "CorruptedData",
-            with_header(|case| {
-                case.image[..64].fill(0xFF);
-                case.image[64] = 0;
-            }),
-        ),
+        ("version 0xFF, header CRC right", REFUSED, old_edition),
+        ("header CRC wrong", REFUSED, blank(|case| case.image[28] ^= 1)),
+        ("state word 0", REFUSED, blank(|case| case.image[..4].fill(0))),
+        ("header blank, byte 64 programmed", REFUSED, headless),
     ]
 }

@@ -110,6 +110,26 @@ pub fn read(call: Call, case: &Case, outcome: &mut Outcome) -> u32 {
 pub fn write(case: &Case, stop: u64, outcome: &mut Outcome) -> u32 {
     let (image, size) = (outcome.image.as_mut_ptr(), outcome.image.len());
     let (record, length) = (outcome.record.as_mut_ptr(), outcome.record.len());
+    let (source, source_length) = (case.source.as_ptr(), case.source.len());
+    // Safety: each pointer goes with the length of its slice, and image and record are buffers of their own.
+    unsafe {
+        match case.call {
+            Call::Open => sys::nvs_open(image, size, record, length),
+            Call::Initialise => sys::nvs_initialise(image, size, record, length, case.number, stop),
+            Call::MarkFull => sys::nvs_mark_full(image, size, record, length),
+            Call::CopyIn => sys::nvs_copy_in(image, size, record, length, source, source_length, case.index, stop),
+            Call::Erase => sys::nvs_erase(image, size, record, length, case.index, case.span),
+            Call::Purge => sys::nvs_purge(image, size, case.index, case.span),
+            Call::PurgeNamespace => sys::nvs_purge_namespace(image, size, record, length, case.namespace),
+            _ => append(case, stop, outcome),
+        }
+    }
+}
+
+#[rustfmt::skip]
+fn append(case: &Case, stop: u64, outcome: &mut Outcome) -> u32 {
+    let (image, size) = (outcome.image.as_mut_ptr(), outcome.image.len());
+    let (record, length) = (outcome.record.as_mut_ptr(), outcome.record.len());
     let (key, key_length) = (case.key.as_ptr(), case.key.len());
     let (single, single_length) = (case.single.as_ptr(), case.single.len());
     let (data, data_length) = (case.data.as_ptr(), case.data.len());
@@ -117,49 +137,17 @@ pub fn write(case: &Case, stop: u64, outcome: &mut Outcome) -> u32 {
     // Safety: each pointer goes with the length of its slice, and image and record are buffers of their own.
     unsafe {
         match case.call {
-            Call::Open => sys::nvs_open(image, size, record, length),
-            Call::Initialise => sys::nvs_initialise(image, size, record, length, case.number, stop),
-            Call::MarkFull => sys::nvs_mark_full(image, size, record, length),
             Call::AppendSingle => sys::nvs_append_single(
-                image,
-                size,
-                record,
-                length,
-                namespace,
-                type_byte,
-                case.span,
-                chunk,
-                key,
-                key_length,
-                single,
-                single_length,
-                stop,
+                image, size, record, length, namespace, type_byte, case.span, chunk, key, key_length,
+                single, single_length, stop,
             ),
-            Call::AppendNamespace => {
-                sys::nvs_append_namespace(image, size, record, length, key, key_length, case.value, stop)
-            }
+            Call::AppendNamespace => sys::nvs_append_namespace(
+                image, size, record, length, key, key_length, case.value, stop,
+            ),
             Call::AppendVariable => sys::nvs_append_variable(
-                image,
-                size,
-                record,
-                length,
-                namespace,
-                type_byte,
-                chunk,
-                key,
-                key_length,
-                data,
-                data_length,
-                stop,
+                image, size, record, length, namespace, type_byte, chunk, key, key_length, data, data_length, stop,
             ),
-            Call::CopyIn => {
-                let (source, source_length) = (case.source.as_ptr(), case.source.len());
-                sys::nvs_copy_in(image, size, record, length, source, source_length, case.index, stop)
-            }
-            Call::Erase => sys::nvs_erase(image, size, record, length, case.index, case.span),
-            Call::Purge => sys::nvs_purge(image, size, case.index, case.span),
-            Call::PurgeNamespace => sys::nvs_purge_namespace(image, size, record, length, namespace),
-            call => unreachable!("{call:?} writes no image"),
+            call => unreachable!("{call:?} does not append"),
         }
     }
 }

@@ -149,6 +149,24 @@ fn every_refusal_once() {
     assert_eq!(append_single(&mut image, &mut record, single(1), 8), Err(Refusal::Stopped));
 }
 
+/// No number is taken for its low byte.
+#[test]
+fn wide_numbers_leave_the_page() {
+    let (image, record) = with_free(100);
+    for index in [256, 256 + 3, 65_536 + 3, (1 << 32) + 3] {
+        let (mut target, mut copy) = (image, record.clone());
+        assert_eq!(load(&image, index), Err(Refusal::CorruptedData));
+        assert_eq!(raw_read(&image, index), Err(Refusal::CorruptedData));
+        assert_eq!(load_data(&image, index, &mut [0; 64]), Err(Refusal::CorruptedData));
+        assert_eq!(entry_state(record.map(), index), Err(Refusal::CorruptedData));
+        assert_eq!(copy_in(&mut target, &mut copy, &image, index, NO_STOP), Err(Refusal::CorruptedData));
+        assert_eq!(erase(&mut target, &mut copy, index, 1), Err(Refusal::CorruptedData));
+        assert_eq!(erase(&mut target, &mut copy, 3, 1 + index - 3), Err(Refusal::CorruptedData));
+        assert_eq!(purge(&mut target, index, 1), Ok(()));
+        assert_eq!((target, copy), (image, record.clone()));
+    }
+}
+
 #[test]
 fn full_pages_take_no_more() {
     let (mut image, mut record) = fresh();
