@@ -8,3 +8,6 @@ pub mod OpenedFront
 pub mod KeptItem
 pub mod ErasedBytes
 pub mod TwoPasses
+pub mod Entries
+pub mod Steps
+pub mod FreeTail

@@ -1,5 +1,7 @@
 // Opening a sector: the reading, and the map and record that it leaves. Added by this port.
 
+pub mod reading;
+
 // The rule of the reading that refused an entry or an item.
 pub enum Reason {
     AllOnes,
