@@ -1,6 +1,5 @@
 // Items (raw.rs `Item`): the CRC and the hash of a header entry, and the bytes of a new one.
 ghost use mathlib.Core.Path.{_≡_};
-ghost use Rattle.flash.specs.Flash.{allOnes};
 ghost use Rattle.sector.specs.Item.{itemCrc, hashOf, loads, itemBytes, sizedData};
 use crate::CRC_START;
 use crate::bytes;
@@ -30,23 +29,12 @@ pub fn calculate_hash(namespace: u8, key: [u8; 16], chunk: u8) -> u32
     crc::crc32(CRC_START, &hashed) % 0x1000000
 }
 
-fn is_blank(entry: [u8; 32]) -> bool
-    ensures { λ r. ⌜ r ≡ allOnes entry ⌝ }
-{
-    for k in 0..32usize {
-        if entry[k] != 0xFF {
-            return false;
-        }
-    }
-    true
-}
-
 // Whether an entry loads (the checks of `ThinPage::load_item`): it is not all 0xFF, and its CRC is right, made
 // over a type byte that is one of the thirteen.
 pub fn loads(entry: [u8; 32]) -> bool
     ensures { λ r. ⌜ r ≡ loads entry ⌝ }
 {
-    if is_blank(entry) {
+    if flash::all_ones(&entry) {
         return false;
     }
     let mut item = entry;
