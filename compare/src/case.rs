@@ -92,6 +92,11 @@ pub const CALLS: [Call; 22] = [
 ];
 
 impl Call {
+    /// Whether the call hands back a number that is none of 01's, and cannot refuse.
+    pub fn is_number(self) -> bool {
+        self < Call::Width
+    }
+
     /// Whether the call can be told to stop.
     pub fn can_stop(self) -> bool {
         use Call::*;

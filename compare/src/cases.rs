@@ -11,19 +11,20 @@ use crate::random::Random;
 type Group = fn(&mut Runner, &mut Random);
 
 /// Each group with its name, and how much of it is recorded: of so many cases, the first so many.
-const GROUPS: [(&str, Group, (u64, u64)); 13] = [
+const GROUPS: [(&str, Group, (u64, u64)); 14] = [
     ("every type byte", bytes::every_type_byte, (1, 1)),
     ("CRCs and hashes", bytes::sums, (1, 501)),
     ("maps", bytes::maps, (1, 401)),
     ("items of every type", sectors::every_item, (6, 1201)),
-    ("every length on a fresh page", fills::every_length, (1, 101)),
-    ("every fill level", fills::every_level, (1, 2003)),
+    ("every length on a fresh page", fills::every_length, (1, 127)),
+    ("every fill level", fills::every_level, (1, 2503)),
     ("copies of every span at every fill level", fills::every_copy, (4, 2003)),
-    ("every stop", fills::every_stop, (1, 37)),
+    ("every stop", fills::every_stop, (1, 61)),
+    ("erase of every index and span", sectors::every_erase, (8, 2003)),
     ("purge of every index and span", sectors::every_purge, (20, 40_009)),
     ("damaged sectors", sectors::damaged, (400, 100_003)),
     ("copies out of damaged sectors", sectors::copies, (20, 5003)),
-    ("records that are only just fit", sectors::records, (10, 10_007)),
+    ("records that are only just fit", sectors::records, (8, 12_007)),
     ("sequences", fills::sequences, (1, 501)),
 ];
 const RECORDED_OF_HISTORIES: (u64, u64) = (250, 100_003);

@@ -69,7 +69,7 @@ impl Sides {
     }
 
     /// After `plain`: our call stopped after n units has to leave the first n units of the Rust's log, and the record
-    /// as it came in. Counts the calls made into `made`.
+    /// as it came in. A refusal has no units and comes before any stop. Counts the calls made into `made`.
     pub fn stopped(&mut self, case: &Case, stops: Stops, made: &mut u64) -> Option<Difference> {
         let total = self.oracle.units().len();
         let first = if stops == Stops::Every { 0 } else { total.saturating_sub(1) };
@@ -98,15 +98,10 @@ impl Sides {
             return None;
         }
         let plain = self.plain(case);
-        if plain.is_some() || !self.can_stop(case) {
+        if plain.is_some() || !case.call.can_stop() {
             return plain;
         }
         self.stopped(case, Stops::Every, &mut 0)
-    }
-
-    /// A refusal comes before a stop, so only a done call stops.
-    fn can_stop(&self, case: &Case) -> bool {
-        case.call.can_stop() && self.expected.returned == DONE
     }
 }
 
@@ -133,7 +128,7 @@ impl Runner {
         }
         let mut difference = self.sides.plain(case);
         self.report.count(case.call, self.sides.expected.returned);
-        if difference.is_none() && self.sides.can_stop(case) {
+        if difference.is_none() && case.call.can_stop() {
             difference = self.sides.stopped(case, stops, &mut self.report.stopped);
         }
         if let Some(difference) = difference {

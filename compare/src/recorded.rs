@@ -2,6 +2,7 @@
 //!
 //! The file is written as changes: what stands in the buffers of the one who replays is what the case before left.
 
+use std::collections::BTreeMap;
 use std::fs;
 use std::io;
 
@@ -33,6 +34,9 @@ pub const COPY_SOURCE: u8 = 4;
 pub const CALL: u8 = 5;
 pub const COMPARE: u8 = 6;
 
+/// So many cases of each call and answer are taken whenever they come.
+const OF_EACH: u32 = 16;
+
 /// What a frame costs before its bytes: shorter stretches are not worth one of their own.
 pub const FRAME: usize = 8;
 
@@ -44,6 +48,7 @@ pub struct Recorder {
     window: u64,
     period: u64,
     seen: u64,
+    taken: BTreeMap<(Call, u32), u32>,
     buffers: [Vec<u8>; 7],
     frames: Vec<u8>,
     cases: u32,
@@ -52,7 +57,7 @@ pub struct Recorder {
 impl Default for Recorder {
     fn default() -> Self {
         let buffers = SIZES.map(|size| vec![0; size]);
-        Recorder { window: 1, period: 1, seen: 0, buffers, frames: Vec::new(), cases: 0 }
+        Recorder { window: 1, period: 1, seen: 0, taken: BTreeMap::new(), buffers, frames: Vec::new(), cases: 0 }
     }
 }
 
@@ -65,9 +70,13 @@ impl Recorder {
     pub fn offer(&mut self, case: &Case, expected: &Outcome, units: &[Unit]) {
         let turn = self.seen % self.period;
         self.seen += 1;
-        if turn >= self.window || case.data.len() > SECTOR || case.output.len() > SECTOR {
+        let number = if case.call.is_number() { DONE } else { expected.returned };
+        let taken = self.taken.entry((case.call, number)).or_default();
+        let wanted = turn < self.window || *taken < OF_EACH;
+        if !wanted || case.data.len() > SECTOR || case.output.len() > SECTOR {
             return;
         }
+        *taken += 1;
         if case.call.can_stop() && expected.returned == DONE {
             let stop = self.seen as usize * 7 % units.len();
             let mut stopped = Outcome::default();

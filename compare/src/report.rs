@@ -47,10 +47,10 @@ impl Default for Report {
 }
 
 impl Report {
-    /// The calls that hand back a number alone are counted as done.
+    /// A call that cannot refuse is counted as done.
     pub fn count(&mut self, call: Call, returned: u32) {
         self.cases += 1;
-        let number = if call < Call::Width { DONE } else { returned };
+        let number = if call.is_number() { DONE } else { returned };
         *self.counts.entry((call, number)).or_default() += 1;
         if self.cases.is_multiple_of(1024) {
             self.progress();
@@ -244,7 +244,7 @@ fn print_difference(difference: Difference, case: &Case, sides: &Sides) {
     let stopped = stop < units as u64;
     let (got, expected) = (&sides.got, if stopped { &sides.at_stop } else { &sides.expected });
     let told = if stop == NO_STOP { String::new() } else { format!(", told to stop after {stop} units") };
-    if case.call < Call::Width {
+    if case.call.is_number() {
         println!("  the Rust   {:#x}\n  ours       {:#x}", expected.returned, got.returned);
         return;
     }

@@ -1,7 +1,7 @@
 //! Calls on sectors full of damage, and on records that are only just fit to use.
 
 use compare::case::{Call, Case};
-use compare::record::{ACTIVE, ENTRIES, WRITTEN};
+use compare::record::{ACTIVE, ENTRIES, FREEING, FULL, WRITTEN};
 
 use crate::check::{Runner, Stops};
 use crate::domain::PAYLOADS;
@@ -86,6 +86,23 @@ pub fn every_purge(runner: &mut Runner, random: &mut Random) {
         for (index, span) in [(wide, narrow), (narrow, wide), (wide, wide)] {
             (case.index, case.span) = (index, span);
             runner.check(&case, Stops::AtTheEnd);
+        }
+    }
+}
+
+/// Every range of a page whose entries are all Written, in each state that erase takes.
+pub fn every_erase(runner: &mut Runner, random: &mut Random) {
+    let mut case = Case::new(Call::Erase);
+    for state in [ACTIVE, FULL, FREEING] {
+        for index in 0..ENTRIES {
+            draw_damaged(random).lend(&mut case);
+            case.record = draw_record(random, ENTRIES);
+            (case.record.state, case.record.used, case.record.erased) = (state, ENTRIES as u8, 0);
+            (0..ENTRIES).for_each(|entry| case.record.set_mark(entry, WRITTEN));
+            for span in 1..=ENTRIES - index {
+                (case.index, case.span) = (index as u64, span as u64);
+                runner.check(&case, Stops::AtTheEnd);
+            }
         }
     }
 }
