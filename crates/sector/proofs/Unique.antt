@@ -6,6 +6,8 @@ use mathlib.Core.Path.{_≡_, sym, ap, ap₂, _∙_}
 use mathlib.Core.List.{List}
 use Prim.Native.Nat.{ℕ}
 use borrow.Fn.Kinds.{PK, RK, Dens, Out, resT, endedOf}
+use contract.Lifetimes.{Lfts}
+use denote.Triple.Clauses.{AtExit}
 use Rattle.sector.specs.declared.Answer.{Answer}
 use Rattle.sector.specs.declared.EntryMapState.{EntryMapState}
 use Rattle.sector.specs.declared.ItemType.{ItemType}
@@ -14,8 +16,6 @@ use Rattle.sector.specs.Answers.{numberOf, carriedByte, answerOf, answer
 use Rattle.sector.specs.Map.{bitsOf, stateOfBits, state-bits}
 use Rattle.sector.specs.Types.{byteOf, itemType, type-byte}
 use Rattle.sector.specs.Header.{wordOf, stateOfWord, state-word}
-use contract.Lifetimes.{Lfts}
-use denote.Triple.Clauses.{AtExit}
 use Rattle.sector.proofs.types.kind_of.Kinds as kind-of-kinds
 use Rattle.sector.proofs.types.kind_of.Reads as kind-of
 use Rattle.sector.proofs.types.type_byte.Kinds as type-byte-kinds
