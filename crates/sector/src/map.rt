@@ -1,6 +1,6 @@
 // The entry map: two bits an entry, entry i at bit 2 * (i mod 4) of map byte i / 4.
 ghost use mathlib.Core.Path.{_≡_};
-ghost use Prim.Native.Nat.{_+_, _<_, _≤_};
+ghost use Prim.Native.Nat.{_+_, _/_, _%_, _^_, _<_, _≤_};
 ghost use Rattle.sector.specs.Map.{bitsOf, stateOfBits, stateAt, entryState, statistics, markMask, markRange};
 use crate::Answer;
 use crate::ENTRIES_PER_PAGE;
@@ -19,11 +19,12 @@ fn bits_of(state: EntryMapState) -> u8
     }
 }
 
-fn state_of_bits(bits: u8) -> EntryMapState
-    requires { ⌜ bits < 4 ⌝ }
-    ensures { λ r. ⌜ r ≡ stateOfBits bits ⌝ }
+// The state in one of the four pairs of a map byte, the lowest first.
+fn state_of_pair(byte: u8, pair: usize) -> EntryMapState
+    requires { ⌜ pair < 4 ⌝ }
+    ensures { λ r. ⌜ r ≡ stateOfBits (byte / 4 ^ pair % 4) ⌝ }
 {
-    match bits {
+    match (byte >> (2 * pair)) % 4 {
         0b00 => EntryMapState::Erased,
         0b01 => EntryMapState::Illegal,
         0b10 => EntryMapState::Written,
@@ -36,8 +37,7 @@ pub fn state_at(map: [u8; 32], index: usize) -> EntryMapState
     requires { ⌜ index < 126 ⌝ }
     ensures { λ r. ⌜ r ≡ stateAt map index ⌝ }
 {
-    let bits = map[index / 4] >> (2 * (index % 4));
-    state_of_bits(bits % 4)
+    state_of_pair(map[index / 4], index % 4)
 }
 
 // The state that a map holds for an entry (`ThinPage::get_entry_state`).
@@ -70,7 +70,7 @@ pub fn get_entry_statistics(map: [u8; 32]) -> Statistics
     let mut erased: u32 = 0;
     let mut illegal: u32 = 0;
     for index in 0..ENTRIES_PER_PAGE {
-        match state_at(map, index) {
+        match state_of_pair(map[index / 4], index % 4) {
             EntryMapState::Empty => empty += 1,
             EntryMapState::Written => written += 1,
             EntryMapState::Erased => erased += 1,

@@ -34,8 +34,11 @@ abbrev μ-loop : tie.MeasureT-loop
 loop-holds : tie.Need-loop-holds Inv-loop μ-loop
 loop-holds c = (search needs, search needs, zero-add _, zero-add _, zero-add _, zero-add _)
 
-state-at-requires : tie.Need-state-at-requires Inv-loop μ-loop
-state-at-requires c κs = search needs
+array-read-state-of-pair : tie.Need-array-read-state-of-pair Inv-loop μ-loop
+array-read-state-of-pair c = search needs
+
+state-of-pair-requires : tie.Need-state-of-pair-requires Inv-loop μ-loop
+state-of-pair-requires c κs = search needs
 
 enum-told : tie.Need-enum-told Inv-loop μ-loop
 enum-told c = search needs
@@ -82,17 +85,17 @@ counted map s t i n l h e k =
 -- after the match, in whichever state the entry is
 again : (c : tie.At-match-came Inv-loop μ-loop) (t : EntryMapState)
     → let l = c .before .before .before .loop in
-    c .before .state-at .result ≡ t
+    c .before .state-of-pair .result ≡ t
     → c .match .empty ≡ l .empty + one Empty t
     → c .match .written ≡ l .written + one Written t
     → c .match .erased ≡ l .erased + one Erased t
     → c .match .illegal ≡ l .illegal + one Illegal t
     → one Empty t + one Written t + one Erased t + one Illegal t ≡ 1
-    → Inv-loop (c .before .before .before .before .args .map) 0 0 0 0 0 (c .match .empty) (c .match .written) (c .match .erased) (c .match .illegal) (l .index + 1)
+    → Inv-loop (c .before .before .before .before .args .t1) 0 0 0 0 0 (c .match .empty) (c .match .written) (c .match .erased) (c .match .illegal) (l .index + 1)
 again c t told empty written erased illegal all =
     let l = c .before .before .before .loop in
-    let map = c .before .before .before .before .args .map in
-    let state = sym told ∙ c .before .state-at .ensures in
+    let map = c .before .before .before .before .args .t1 in
+    let state = sym told ∙ c .before .state-of-pair .ensures in
     let full : length map ≡ 32 = omega arith in
     let more : (s : EntryMapState) (n : ℕ) → Counted map s (l .index) n → Counted map s (l .index + 1) (n + one s t) = λ s n k. counted map s t (l .index) n full (omega arith) state k in (
       omega arith,
@@ -126,7 +129,7 @@ returns : tie.Need-returns Inv-loop μ-loop
 unfolding statistics
 returns c =
     let l = c .before .loop in
-    let map = c .before .before .args .map in
+    let map = c .before .before .args .t1 in
     let full : length map ≡ 32 = omega arith in
     let all : (s : EntryMapState) (n : ℕ) → Counted map s (l .index) n → n ≡ countIn s (statesOf map) = λ s n k. done map s (l .index) n full (omega arith) k in
     rw (
@@ -143,7 +146,8 @@ get-entry-statistics-spec =
     Inv-loop
     μ-loop
     loop-holds
-    state-at-requires
+    array-read-state-of-pair
+    state-of-pair-requires
     enum-told
     add-empty
     enum-told-2
