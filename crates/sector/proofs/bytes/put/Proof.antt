@@ -11,7 +11,8 @@ use Rattle.sector.proofs.bytes.put.Statement.{statement}
 use Rattle.sector.proofs.bytes.put.Tie as tie
 
 abbrev Inv-loop : tie.InvT-loop
-Inv-loop out₀ offset bytes k₀ k-end out k = (k ≤ length bytes) × (k-end ≡ length bytes) × (out ≡ paste out₀ offset bytes k) × (length out ≡ length out₀)
+Inv-loop out₀ offset bytes k₀ k-end out k =
+    (k ≤ length bytes) × (k-end ≡ length bytes) × (out ≡ paste out₀ offset bytes k) × (length out ≡ length out₀)
 
 abbrev μ-loop : tie.MeasureT-loop
 μ-loop out₀ offset bytes k₀ k-end out k = k-end - k

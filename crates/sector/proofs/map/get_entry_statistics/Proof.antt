@@ -97,7 +97,8 @@ again c t told empty written erased illegal all =
     let map = c .before .before .before .before .args .t1 in
     let state = sym told ∙ c .before .state-of-pair .ensures in
     let full : length map ≡ 32 = omega arith in
-    let more : (s : EntryMapState) (n : ℕ) → Counted map s (l .index) n → Counted map s (l .index + 1) (n + one s t) = λ s n k. counted map s t (l .index) n full (omega arith) state k in (
+    let more : (s : EntryMapState) (n : ℕ) → Counted map s (l .index) n → Counted map s (l .index + 1) (n + one s t) =
+    λ s n k. counted map s t (l .index) n full (omega arith) state k in (
       omega arith,
       omega arith,
       rw empty (more Empty (l .empty) (l .inv .2)),
@@ -131,7 +132,8 @@ returns c =
     let l = c .before .loop in
     let map = c .before .before .args .t1 in
     let full : length map ≡ 32 = omega arith in
-    let all : (s : EntryMapState) (n : ℕ) → Counted map s (l .index) n → n ≡ countIn s (statesOf map) = λ s n k. done map s (l .index) n full (omega arith) k in
+    let all : (s : EntryMapState) (n : ℕ) → Counted map s (l .index) n → n ≡ countIn s (statesOf map) =
+    λ s n k. done map s (l .index) n full (omega arith) k in
     rw (
       all Empty (l .empty) (l .inv .2),
       all Written (l .written) (l .inv .3),
