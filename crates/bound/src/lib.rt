@@ -66,7 +66,8 @@ fn bound_from(map: [u8; 32], entries: [[u8; 32]; 126], index: usize) -> usize
 // An upper bound on the items outside namespace 0 that a page holds (`ThinPage::hashed_item_bound`), by a
 // walk from header to header over its map and its 126 entries.
 //
-// Entries are passed by value, and the walk calls itself; the Rust lends them, and loops.
+// Entries are passed by value, and the walk calls itself; the Rust lends them, and loops. Each call holds a
+// copy of the entries, so a page of single entries takes half a megabyte of stack.
 pub fn hashed_item_bound(map: [u8; 32], entries: [[u8; 32]; 126]) -> usize
     ensures { λ r. ⌜ r ≡ hashBound map entries ⌝ }
 {

@@ -1,4 +1,4 @@
--- Laws of the readings: when a list of checks accepts, what load data's checks leave known, and a copy's turn.
+-- Laws of the readings: when a list of checks accepts, what the calls' checks leave known, an entry's fields, and a copy's turn.
 -- Assumes nothing.
 use mathlib.Core.Path.{_≡_, refl, sym, ap, _∙_}
 use mathlib.Core.Bool.{Bool, true, false, cond, _&&_, false≢true, and-eq-true-iff}
@@ -9,14 +9,16 @@ use native.Mathlib.Numerals.{add-one}
 use native.Mathlib.Omega.{arith}
 use lib.Dec.{eqb, ltb}
 use lib.ListN.{length, take, drop, set, getD, length-append, length-take, length-drop}
-use lib.Seq.{paste-suc}
+use lib.Seq.{take-take, drop-drop, drop-set-lt, getD-set-same, getD-set-other, paste-suc}
 use borrow.Author.Tests.{ne-eqb, ltb-true, ltb-false, eqb-true, not-false}
 use Rattle.flash.specs.Flash.{every}
 use Rattle.sector.specs.declared.Answer.{Answer}
 use Rattle.sector.specs.declared.Answer.the-variants.{Done}
 use Rattle.sector.specs.Answers.{Check, numberOf, refusal, accepted}
-use Rattle.sector.specs.Layout.{sectorSize, entriesPerPage, entrySize, entryAddress, entryAt, spanOf, sizeOf}
-use Rattle.load.specs.Load.{entryChecks, refusedItem, loadedOr, roundedUp, dataChecks}
+use Rattle.sector.specs.Layout.{sectorSize, entriesPerPage, entrySize, entryAddress, entryAt, field, spanOf, sizeOf, typeByteOf}
+use Rattle.sector.specs.Types.{sanitized, itemType, typeByte, type-byte}
+use Rattle.load.specs.declared.Loaded.{Loaded}
+use Rattle.load.specs.Load.{entryChecks, loadChecks, refusedItem, loadedOr, roundedUp, payloadChecks, dataChecks}
 
 -- ---- checks
 
@@ -72,6 +74,13 @@ entry-fits image i h =
     let at : (n : ℕ) → getD (entryChecks image i) n (false, Done) .0 ≡ false = λ n. accepted-at (entryChecks image i) n h in
     (eqb-true _ _ (not-false _ (at 0)), ltb-true _ _ (not-false _ (at 1)))
 
+-- what passes load's
+pub load-fits : (image : List ℕ) (i : ℕ) → accepted (loadChecks image i) ≡ true
+    → (length image ≡ sectorSize) × (i < entriesPerPage)
+load-fits image i h =
+    let at : (n : ℕ) → getD (loadChecks image i) n (false, Done) .0 ≡ false = λ n. accepted-at (loadChecks image i) n h in
+    (eqb-true _ _ (not-false _ (at 0)), ltb-true _ _ (not-false _ (at 1)))
+
 -- an item is refused where the first checks refuse, and else by the others
 pub loadedOr-refused : (xs ys : List Check) (item : List ℕ) → accepted xs ≡ false
     → loadedOr (xs ++ ys) item ≡ refusedItem (refusal xs)
@@ -80,6 +89,55 @@ loadedOr-refused xs ys item h = rw (accepted-append xs ys, refusal-append xs ys,
 pub loadedOr-accepted : (xs ys : List Check) (item : List ℕ) → accepted xs ≡ true
     → loadedOr (xs ++ ys) item ≡ loadedOr ys item
 loadedOr-accepted xs ys item h = rw (accepted-append xs ys, refusal-append xs ys, h)
+
+-- its answer is the first refusal, Done where there is none; then the item is the one given
+pub loadedOr-answer : (checks : List Check) (item : List ℕ) → loadedOr checks item .answer ≡ refusal checks
+loadedOr-answer checks item = go (accepted checks) refl
+  where
+    go : (t : Bool) → accepted checks ≡ t
+        → cond {A = Loaded} t (record { answer = Done; item = item }) (refusedItem (refusal checks)) .answer ≡ refusal checks
+    go true h = sym (refusal-accepted checks h)
+    go false h = refl
+
+pub loadedOr-item : (checks : List Check) (item : List ℕ) → accepted checks ≡ true → loadedOr checks item .item ≡ item
+loadedOr-item checks item h = rw h
+
+-- the payload's checks do not see that a type byte was made one of the thirteen
+pub payloadChecks-sanitized : (entry : List ℕ) (i room : ℕ) → 1 < length entry
+    → payloadChecks (sanitized entry) i room ≡ payloadChecks entry i room
+payloadChecks-sanitized entry i room h =
+    let byte = typeByteOf entry in
+    rw (
+      getD-set-same entry 1 (typeByte byte) 0 h,
+      type-byte (itemType byte),
+      getD-set-other entry 1 2 (typeByte byte) 0 (λ e. omega arith),
+      drop-set-lt 24 entry 1 (typeByte byte) (omega arith),
+    )
+
+-- ---- fields of an entry
+
+pub length-entryAt : (image : List ℕ) (i : ℕ) → length image ≡ sectorSize → i < entriesPerPage
+    → length (entryAt image i) ≡ entrySize
+length-entryAt image i h inside = simp (length-take, length-drop) (omega arith)
+
+pub sizeOf-sanitized : (entry : List ℕ) → sizeOf (sanitized entry) ≡ sizeOf entry
+sizeOf-sanitized entry = rw (drop-set-lt 24 entry 1 (typeByte (typeByteOf entry)) (omega arith))
+
+field-take : (offset size n : ℕ) (bytes : List ℕ) → offset + size ≤ n
+    → field offset size (take n bytes) ≡ field offset size bytes
+field-take zero size n bytes h = take-take size n bytes (omega arith)
+field-take (suc offset) size zero bytes h = absurd (omega arith)
+field-take (suc offset) size (suc n) [] h = refl
+field-take (suc offset) size (suc n) (byte ∷ bytes) h = field-take offset size n bytes (omega arith)
+
+-- a field of an entry, read from the image
+pub field-entryAt : (image : List ℕ) (i offset size : ℕ) → offset + size ≤ entrySize
+    → field offset size (entryAt image i) ≡ field (entryAddress i + offset) size image
+field-entryAt image i offset size h =
+    field-take offset size entrySize (drop (entryAddress i) image) h
+    ∙ ap (take size) (drop-drop offset (entryAddress i) image)
+
+-- ---- load data
 
 -- what passes all of load data's checks
 pub record DataFits (image : List ℕ) (i room : ℕ) : Type 0 where

@@ -1,6 +1,7 @@
 // Reading items out of a sector (page.rs): load, raw read, load data.
 use sector::Answer;
 use sector::ENTRIES_PER_PAGE;
+use sector::bytes;
 use sector::item;
 use sector::types;
 ghost use mathlib.Core.Path.{_≡_};
@@ -8,8 +9,10 @@ ghost use mathlib.Core.List.{_++_};
 ghost use Prim.Native.Nat.{_+_, _*_, _^_, _≤_, _<_};
 ghost use lib.ListN.{length, drop};
 ghost use Rattle.sector.specs.Layout.{sectorSize, entriesPerPage, entryAt, sizeOf};
+ghost use Rattle.sector.specs.Item.{loads};
+ghost use Rattle.sector.specs.Types.{sanitized};
 ghost use Rattle.sector.specs.Answers.{numberOf, refusal};
-ghost use Rattle.load.specs.Load.{entryChecks, rawEntry, loadItem, roundedUp, payloadChecks, dataChecks, dataAnswer, dataOutput, refusedItem};
+ghost use Rattle.load.specs.Load.{entryChecks, rawEntry, loadItem, roundedUp, payloadChecks, dataAnswer, dataOutput, refusedItem};
 
 const SECTOR_SIZE: usize = 4096;
 
@@ -103,6 +106,22 @@ pub fn read_raw_entry(image: &[u8], index: usize) -> Loaded
     }
 }
 
+// Whether an entry loads, of which the item is already made: not all 0xFF, and its CRC is right.
+//
+// It does what `item::loads` does, and reads the image itself: a copy of the entry costs a third of a load.
+fn loads_at(image: &[u8], index: usize, item: [u8; 32]) -> bool
+    requires { ⌜ (length (now image) ≡ sectorSize) × (index < entriesPerPage) × (item ≡ sanitized (entryAt (now image) index)) ⌝ }
+    ensures { λ r. ⌜ r ≡ loads (entryAt (now (image .entry)) index) ⌝ }
+{
+    let start = ITEMS_OFFSET + ENTRY_SIZE * index;
+    let end = start + ENTRY_SIZE;
+    if flash::all_ones(&image[start..end]) {
+        return false;
+    }
+    let crc = item::item_crc(item);
+    crc == bytes::number_at(image, start + 4)
+}
+
 // The item whose header is an entry (`ThinPage::load_item`), its type byte made 0xFF where it is none of
 // the thirteen. The map is not consulted, so an erased item still loads.
 //
@@ -116,10 +135,10 @@ pub fn load_item(image: &[u8], index: usize) -> Loaded
         return refused(answer);
     }
     let mut item = entry_at(image, index);
-    if !item::loads(item) {
+    item[1] = types::type_byte(item[1]);
+    if !loads_at(image, index, item) {
         return refused(Answer::KeyNotFound);
     }
-    item[1] = types::type_byte(item[1]);
     Loaded {
         answer: Answer::Done,
         item,
@@ -173,21 +192,6 @@ fn payload_refusal(entry: [u8; 32], index: usize, room: usize) -> Answer
     Answer::Done
 }
 
-// The first of load data's checks that refuses, or Done.
-fn data_refusal(image: &[u8], index: usize, room: usize) -> Answer
-    ensures { λ r. ⌜ r ≡ refusal (dataChecks (now (image .entry)) index room) ⌝ }
-{
-    let answer = entry_refusal(image, index);
-    if number_of(answer) != 0 {
-        return answer;
-    }
-    let entry = entry_at(image, index);
-    if !item::loads(entry) {
-        return Answer::KeyNotFound;
-    }
-    payload_refusal(entry, index, room)
-}
-
 // The output's first bytes become the part's; the rest stays.
 fn copy_to(part: &[u8], output: &mut [u8])
     requires { ⌜ length (now part) ≤ length (now output) ⌝ }
@@ -210,11 +214,20 @@ pub fn load_referenced_data_into(image: &[u8], index: usize, output: &mut [u8]) 
     ensures answer { λ r. ⌜ r ≡ dataAnswer (now (image .entry)) index (length (now (output .entry))) ⌝ }
     ensures output { λ r. ⌜ now (output .exit) ≡ dataOutput (now (image .entry)) index (now (output .entry)) ⌝ }
 {
-    let answer = data_refusal(image, index, output.len());
+    let loaded = load_item(image, index);
+    let answer = loaded.answer;
     if number_of(answer) != 0 {
         return DataLoaded { answer, size: 0 };
     }
-    let size = size_of(entry_at(image, index));
+    let item = loaded.item;
+    let refusal = payload_refusal(item, index, output.len());
+    if number_of(refusal) != 0 {
+        return DataLoaded {
+            answer: refusal,
+            size: 0,
+        };
+    }
+    let size = size_of(item);
     let start = ITEMS_OFFSET + ENTRY_SIZE * (index + 1);
     let end = start + rounded_up(size);
     copy_to(&image[start..end], output);

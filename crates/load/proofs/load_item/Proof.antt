@@ -4,9 +4,12 @@ use mathlib.Core.Bool.{true}
 use mathlib.Core.List.{List}
 use Prim.Native.Nat.{ℕ}
 use lib.Dec.{eqb}
+use lib.ListN.{set}
 use borrow.Author.Needs.{needs}
 use borrow.Author.Tests.{eq-eqb, ne-eqb, not-true, not-false}
 use Rattle.sector.specs.Answers.{accepted}
+use Rattle.sector.specs.Layout.{entryAt}
+use Rattle.sector.specs.Types.{sanitized}
 use Rattle.load.specs.Load.{entryChecks, loadItem}
 use Rattle.load.proofs.Laws.{accepted-number, entry-fits, loadedOr-refused, loadedOr-accepted}
 use Rattle.load.proofs.load_item.Statement.{statement}
@@ -25,6 +28,12 @@ module _ (c : tie.After-number-of) where
 
 enters : (c : tie.Else1) → accepted (entryChecks (image (c .before)) (index (c .before))) ≡ true
 enters c = checked (c .before) ∙ eq-eqb _ _ (c .if1 .left)
+
+-- the item is the entry with its type byte made one of the thirteen
+item-made : (c : tie.After-type-byte)
+    → let at = c .before .before .before in
+    set (c .before .entry-at .result) 1 (c .type-byte .result) ≡ sanitized (entryAt (image at) (index at))
+item-made c = rw (c .type-byte .ensures, c .before .entry-at .ensures)
 
 entry-refusal-requires : tie.Need-entry-refusal-requires
 entry-refusal-requires c κs = search needs
@@ -45,24 +54,6 @@ returns c =
 entry-at-requires : tie.Need-entry-at-requires
 entry-at-requires c κs = entry-fits (image (c .before)) (index (c .before)) (enters c)
 
-loads-requires : tie.Need-loads-requires
-loads-requires c κs = search needs
-
-refused-requires-2 : tie.Need-refused-requires-2
-refused-requires-2 c κs = search needs
-
-returns-2 : tie.Need-returns-2
-unfolding loadItem
-returns-2 c =
-    let read = c .before .before .before in
-    let at = read .before .before in
-    rw (
-      loadedOr-accepted (entryChecks (image at) (index at)) _ _ (enters (read .before)),
-      ← read .entry-at .ensures,
-      sym (c .before .before .loads .ensures) ∙ not-true _ (c .before .if2 .taken),
-    )
-    (c .refused2 .ensures)
-
 array-read-type-byte : tie.Need-array-read-type-byte
 array-read-type-byte c = search needs
 
@@ -72,16 +63,35 @@ type-byte-requires c κs = search needs
 array-write-item : tie.Need-array-write-item
 array-write-item c = search needs
 
+loads-at-requires : tie.Need-loads-at-requires
+loads-at-requires c κs =
+    let at = c .before .before .before in
+    let fits = entry-fits (image at) (index at) (enters (c .before .before)) in
+    (fits .0, fits .1, item-made c)
+
+refused-requires-2 : tie.Need-refused-requires-2
+refused-requires-2 c κs = search needs
+
+returns-2 : tie.Need-returns-2
+unfolding loadItem
+returns-2 c =
+    let made = c .before .before .before in
+    let at = made .before .before .before in
+    rw (
+      loadedOr-accepted (entryChecks (image at) (index at)) _ _ (enters (made .before .before)),
+      sym (c .before .before .loads-at .ensures) ∙ not-true _ (c .before .if2 .taken),
+    )
+    (c .refused2 .ensures)
+
 returns-3 : tie.Need-returns-3
 unfolding loadItem
 returns-3 c =
-    let read = c .before .before .before in
-    let at = read .before .before in
+    let made = c .before .before in
+    let at = made .before .before .before in
     rw (
-      loadedOr-accepted (entryChecks (image at) (index at)) _ _ (enters (read .before)),
-      ← read .entry-at .ensures,
-      sym (c .before .before .loads .ensures) ∙ not-false _ (c .before .if2 .left),
-      c .type-byte .ensures,
+      loadedOr-accepted (entryChecks (image at) (index at)) _ _ (enters (made .before .before)),
+      sym (c .before .loads-at .ensures) ∙ not-false _ (c .if2 .left),
+      item-made made,
     )
 
 pub load-item-spec : {M : Type 1} → statement M
@@ -93,10 +103,10 @@ load-item-spec =
     refused-requires
     returns
     entry-at-requires
-    loads-requires
-    refused-requires-2
-    returns-2
     array-read-type-byte
     type-byte-requires
     array-write-item
+    loads-at-requires
+    refused-requires-2
+    returns-2
     returns-3)
