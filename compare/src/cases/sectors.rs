@@ -18,8 +18,12 @@ pub fn every_item(runner: &mut Runner, random: &mut Random) {
                 let room = (ENTRIES - index) as u8;
                 for span in [0, 1, 2, 3, room, room + 1, 255] {
                     let mut item = draw_item(random, type_byte, span);
+                    if random.once_in(2) {
+                        // A size that any span but 0 holds, or most do.
+                        item[24..26].copy_from_slice(&[random.pick(&[0, 0, 1, 32]), 0]);
+                    }
                     match seal_kind {
-                        0 => (),
+                        0 => seal(&mut item),
                         1 => seal_as_it_stands(&mut item),
                         _ => item[4] ^= 1,
                     }
@@ -32,20 +36,23 @@ pub fn every_item(runner: &mut Runner, random: &mut Random) {
     sizes(runner, random);
 }
 
-/// Payload items of every size at the edge of their span.
+/// Payload items of every span, of no size and of every size at the edge of the span, where the span just fits the page
+/// and where it just leaves it.
 fn sizes(runner: &mut Runner, random: &mut Random) {
     let mut case = Case::new(Call::Load);
     random.fill(&mut case.image);
-    for span in 1..=ENTRIES {
-        let held = ITEM * (span - 1);
-        for size in held.saturating_sub(ITEM + 2)..=held + 2 {
+    for span in 0..=ENTRIES + 2 {
+        let held = ITEM * span.saturating_sub(1);
+        for size in (held.saturating_sub(ITEM + 2)..=held + 2).chain([0]) {
             let type_byte = random.pick(&PAYLOADS);
             let mut item = draw_item(random, type_byte, span as u8);
             item[24..26].copy_from_slice(&(size as u16).to_le_bytes());
             seal(&mut item);
-            let index = random.below(ENTRIES + 1 - span);
-            put_item(&mut case.image, index, &item);
-            reads(runner, random, &mut case, index);
+            let last = ENTRIES.saturating_sub(span).min(ENTRIES - 1);
+            for index in [last, (last + 1).min(ENTRIES - 1), random.below(last + 1)] {
+                put_item(&mut case.image, index, &item);
+                reads(runner, random, &mut case, index);
+            }
         }
     }
 }
