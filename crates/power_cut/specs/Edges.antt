@@ -1,0 +1,1 @@
+-- The starred edges (01, 'Both sides of each edge').
