@@ -46,7 +46,7 @@ AbsentOrWhole =
     → (write : Write) (n : ℕ) → Begins write image page n
     → (opening (imageOf write image page n) .answer ≡ Done)
     × (keptItems (imageOf write image page n)
-        ≡ cond (leb n (length (entryUnits write page))) items (items ++ (newItem write page ∷ [])))
+    ≡ cond (leb n (length (entryUnits write page))) items (items ++ (newItem write page ∷ [])))
 
 -- no bit that was cleared is set
 abbrev pub SetsNoBit : List ℕ → List ℕ → Type 0
@@ -59,7 +59,7 @@ AltersNothingElse =
     → (write : Write) (n : ℕ) → Begins write image page n
     → SetsNoBit image (imageOf write image page n)
     × ((i : ℕ) → i < entriesPerPage → (i < nextFree page) ⊎ (nextFree page + length (entriesOfWrite write) ≤ i)
-        → entryAt (imageOf write image page n) i ≡ entryAt image i)
+    → entryAt (imageOf write image page n) i ≡ entryAt image i)
 
 -- nor does an erasure set a cleared bit, and it alters no entry's bytes
 abbrev pub ErasesMarksAlone : Type 0
@@ -79,7 +79,7 @@ InitialiseCut =
     → (opening (initialiseImage (replicate sectorSize 0xFF) uninitialized sequence n) ≡ answered Done uninitialized)
     ⊎ ((opening (initialiseImage (replicate sectorSize 0xFF) uninitialized sequence n) ≡ answered CorruptedData uninitialized)
     ⊎ (initialiseImage (replicate sectorSize 0xFF) uninitialized sequence n
-        ≡ initialiseImage (replicate sectorSize 0xFF) uninitialized sequence (length (initialisePlan sequence))))
+    ≡ initialiseImage (replicate sectorSize 0xFF) uninitialized sequence (length (initialisePlan sequence))))
 
 -- ---- opening
 
