@@ -26,12 +26,10 @@ use Rattle.sector.specs.Item.{hashOfItem}
 use Rattle.sector.specs.Layout.{sectorSize, entriesPerPage, mapOffset, field, mapOf, entriesOf, stateWord, sequenceOf, versionOf, storedHeaderCrc, namespaceOf}
 use Rattle.sector.specs.Map.{statesOf, unpack, pack, sameState, countIn}
 use Rattle.opening.specs.Reading.{Verdict, NotAnItem, RefusedEntry, RefusedItem, Kept, verdictAt, stepsOver, Item, item, keptFrom, openedStates}
+pub use Rattle.opening.specs.declared.HeaderVerdict.{HeaderVerdict}
+pub use Rattle.opening.specs.declared.HeaderVerdict.the-variants.{Blank, Opens, WrongPageState, WrongVersion, WrongHeaderCrc}
 
 -- ---- the header
-
--- what opening makes of a header: an erased page, a page that opens, or the first rule that refused it
-pub data HeaderVerdict : Type 0 where
-  Blank Opens WrongPageState WrongVersion WrongHeaderCrc : HeaderVerdict
 
 -- Active, Full or Freeing
 abbrev pub isOpenState : PageState → Bool

@@ -3,6 +3,7 @@
 -- In order: the rules, one definition each; the verdict at an entry, with the rule that decided; the walk; the items kept;
 -- the free tail; the states that opening leaves.
 -- States and entries are two lists side by side: opening changes states alone.
+-- Verdict and Reason are the code's own enums.
 -- Assumes nothing.
 use mathlib.Core.Bool.{Bool, true, false, _&&_, _||_, not, cond}
 use mathlib.Core.List.{List, [], _∷_, _++_}
@@ -17,12 +18,12 @@ use Rattle.sector.specs.declared.EntryMapState.the-variants.{Empty, Written, Er
 use Rattle.sector.specs.Item.{crcStart, crcRight}
 use Rattle.sector.specs.Layout.{entrySize, typeByteOf, spanOf, sizeOf, storedPayloadCrc}
 use Rattle.sector.specs.Types.{itemType, hasPayload}
+pub use Rattle.opening.specs.declared.Reason.{Reason}
+pub use Rattle.opening.specs.declared.Reason.the-variants.{AllOnes, CrcWrong, SpanOffPage, WrongSpan, SizeTooBig, PayloadCrcWrong, CoveredNotUsable}
+pub use Rattle.opening.specs.declared.Verdict.{Verdict}
+pub use Rattle.opening.specs.declared.Verdict.the-variants.{NotAnItem, RefusedEntry, RefusedItem, Kept}
 
 -- ---- the rules
-
--- the rule of the reading that refused an entry or an item
-pub data Reason : Type 0 where
-  AllOnes CrcWrong SpanOffPage WrongSpan SizeTooBig PayloadCrcWrong CoveredNotUsable : Reason
 
 -- the first rule that applies
 abbrev pub firstRule : List (Bool × Reason) → Option Reason
@@ -90,13 +91,6 @@ usable (suc k) [] = true
 usable (suc k) (s ∷ states) = isUsable s && usable k states
 
 -- ---- the verdict
-
--- at an entry: no item is looked for; the entry is refused; a payload item is refused or an item is kept, with the entries that it covers
-pub data Verdict : Type 0 where
-  NotAnItem : Verdict
-  RefusedEntry : Reason → Verdict
-  RefusedItem : Reason → ℕ → Verdict
-  Kept : ℕ → Verdict
 
 abbrev pub itemVerdict : Option Reason → Bool → ℕ → Verdict
 itemVerdict (some reason) allUsable k = RefusedItem reason k

@@ -1,5 +1,11 @@
 // The sector's layout (raw.rs): page states, the entry map, item types, CRCs and the hash.
 
+pub mod bytes;
+pub mod header;
+pub mod item;
+pub mod map;
+pub mod types;
+
 // What a page is for; Corrupt also for any word that is none of these.
 pub enum PageState {
     Uninitialized,

@@ -6,19 +6,18 @@ use Prim.Native.Nat.{ℕ, suc, _≤_, _<_, _+_, _-_}
 use native.Mathlib.Omega.{arith}
 use native.Mathlib.Numerals.{add-one}
 use lib.ListN.{length, getD, drop}
-use lib.Seq.{drop-cons, drop-length}
+use lib.Seq.{drop-length}
 use lib.Bits.{bitAnd, and-le-l}
 use Rattle.flash.specs.Flash.{isOnes, allOnes}
-use Rattle.flash.proofs.Laws.{is-ones-and}
+use Rattle.flash.proofs.Laws.{is-ones-and, all-ones-drop}
 use Rattle.flash.proofs.all_ones.Statement.{statement}
 use Rattle.flash.proofs.all_ones.Tie as tie
 
 -- one byte more
-passed : (bytes : List ℕ) (ones i : ℕ) → ones < 256 → getD bytes i 0 < 256 → i < length bytes
+ones-more : (bytes : List ℕ) (ones i : ℕ) → ones < 256 → getD bytes i 0 < 256 → i < length bytes
     → (isOnes (bitAnd ones (getD bytes i 0)) && allOnes (drop (i + 1) bytes)) ≡ (isOnes ones && allOnes (drop i bytes))
-unfolding allOnes
-passed bytes ones i ones-fit byte-fits h =
-    rw (is-ones-and ones (getD bytes i 0) ones-fit byte-fits, add-one, drop-cons bytes i 0 h)
+ones-more bytes ones i ones-fit byte-fits h =
+    rw (is-ones-and ones (getD bytes i 0) ones-fit byte-fits, add-one, all-ones-drop bytes i h)
     (and-assoc (isOnes ones) (isOnes (getD bytes i 0)) (allOnes (drop (suc i) bytes)))
 
 abbrev Inv-loop : tie.InvT-loop
@@ -48,7 +47,7 @@ loop-again c =
       omega arith,
       refl,
       omega (arith, and-le-l (head .ones) (getD bytes (head .i) 0)),
-      passed bytes (head .ones) (head .i) (head .inv .2) fits (omega arith) ∙ head .inv .3,
+      ones-more bytes (head .ones) (head .i) (head .inv .2) fits (omega arith) ∙ head .inv .3,
     )
 
 returns : tie.Need-returns Inv-loop μ-loop

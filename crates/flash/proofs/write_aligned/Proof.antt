@@ -8,7 +8,7 @@ use lib.ListN.{length, take}
 use lib.Seq.{take-all, length-take-le}
 use borrow.Author.Needs.{needs}
 use Rattle.flash.specs.Flash.{program}
-use Rattle.flash.proofs.Laws.{bytes-of-getD, run-take-units, length-units}
+use Rattle.flash.proofs.Laws.{bytes-of-getD, run-take-units, length-units-at}
 use Rattle.flash.proofs.write_aligned.Statement.{statement}
 use Rattle.flash.proofs.write_aligned.Tie as tie
 
@@ -43,12 +43,12 @@ returns c =
     let first = c .before .before .before .before .before .before .before in
     let args = first .before .before .args in
     let b = bytes-of-getD (args .image .now) (λ i h. first .before .slice-known .given i .fits) in (
-      c .unit-count .ensures ∙ length-units 0 (args .bytes .now) ∙ sym (length-units (args .address) (args .bytes .now)),
+      c .unit-count .ensures ∙ length-units-at 0 (args .address) (args .bytes .now),
       c .before .before .before .program-bytes .ensures
           ∙ ap (program (args .image .now) (args .address))
           (ap (λ (n : ℕ). take n (args .bytes .now)) (c .before .before .before .before .before .before .bytes-within .ensures)
           ∙ take-min (args .bytes .now) (4 * args .budget))
-          ∙ sym (run-take-units (args .address) (args .budget) (args .bytes .now) b),
+          ∙ sym (run-take-units (args .budget) (args .address) (args .bytes .now) b),
     )
 
 pub write-aligned-spec : {M : Type 1} → statement M

@@ -1,0 +1,6 @@
+pub mod Verdicts
+pub mod Course
+pub mod Midway
+pub mod Reopened
+pub mod Closed
+pub mod OpenedFront

@@ -1,0 +1,107 @@
+-- What opening leaves: a closed front, and behind it the free tail.
+--
+-- In order: front and tail; opening leaves them. Assumes nothing.
+use mathlib.Core.Path.{_≡_, refl, ap}
+use mathlib.Core.Bool.{Bool, true, false, _&&_, cond}
+use mathlib.Core.List.{List, [], _∷_, _++_}
+use Prim.Native.Nat.{ℕ, zero}
+use lib.ListN.{length}
+use Rattle.flash.specs.Flash.{allOnes}
+use Rattle.sector.specs.declared.EntryMapState.{EntryMapState}
+use Rattle.sector.specs.declared.EntryMapState.the-variants.{Empty, Written, Erased, Illegal}
+use Rattle.opening.specs.Reading.{walk, isEmpty, isFreeTail, shut, shutBeforeTail, openedStates}
+use Rattle.opening.proofs.Verdicts.{States, Entries, Whole, whole-front, verdict-refusedItem, verdict-keptItem}
+use Rattle.opening.proofs.Course.{Course, ends, meetsEmpty, meetsErased, meetsIllegal, refusesEntry, refusesItem, keepsItem, erasesBehind, keepsBehind, goesOn, course}
+use Rattle.opening.proofs.Midway.{walk-zero}
+use Rattle.opening.proofs.Reopened.{openedFrom, again}
+use Rattle.opening.proofs.Closed.{Closed, closed-nil, closed-erased, closed-header, closed-covered, closed-fits}
+
+-- ---- front and tail
+
+-- k covered entries and a closed front, then the free tail
+pub record FrontAndTail (k : ℕ) (states : States) (entries : Entries) : Type 0 where
+  pub front : States
+  pub tail : States
+  pub bytes : Entries
+  pub blanks : Entries
+  pub states-split : states ≡ front ++ tail
+  pub entries-split : entries ≡ bytes ++ blanks
+  pub closed : Closed k front bytes
+  pub free : isFreeTail tail blanks ≡ true
+
+only-tail : {states : States} {entries : Entries} → isFreeTail states entries ≡ true → FrontAndTail zero states entries
+only-tail {states} {entries} e =
+    record {
+      front = [];
+      tail = states;
+      bytes = [];
+      blanks = entries;
+      states-split = refl;
+      entries-split = refl;
+      closed = closed-nil;
+      free = e;
+    }
+
+one-more : {j k : ℕ} {states : States} {entries : Entries} (s : EntryMapState) (entry : List ℕ) (f : FrontAndTail k states entries)
+    → Closed j (s ∷ f .front) (entry ∷ f .bytes) → FrontAndTail j (s ∷ states) (entry ∷ entries)
+one-more s entry f c =
+    record {
+      front = s ∷ f .front;
+      tail = f .tail;
+      bytes = entry ∷ f .bytes;
+      blanks = f .blanks;
+      states-split = ap (λ (states : States). s ∷ states) (f .states-split);
+      entries-split = ap (λ (entries : Entries). entry ∷ entries) (f .entries-split);
+      closed = c;
+      free = f .free;
+    }
+
+-- ---- opening leaves them
+
+isEmpty-shut : (s : EntryMapState) → isEmpty (shut s) ≡ false
+isEmpty-shut Empty = refl
+isEmpty-shut Written = refl
+isEmpty-shut Erased = refl
+isEmpty-shut Illegal = refl
+
+isFreeTail-shutBeforeTail : (states : States) (entries : Entries) → isFreeTail (shutBeforeTail states entries) entries ≡ isFreeTail states entries
+isFreeTail-shutBeforeTail [] entries = refl
+isFreeTail-shutBeforeTail (s ∷ states) [] = refl
+isFreeTail-shutBeforeTail (s ∷ states) (entry ∷ entries) = by (isFreeTail-shutBeforeTail states entries) (isFreeTail (s ∷ states) (entry ∷ entries)) refl
+  where
+    by : isFreeTail (shutBeforeTail states entries) entries ≡ isFreeTail states entries → (free : Bool) → isFreeTail (s ∷ states) (entry ∷ entries) ≡ free
+        → isFreeTail (cond free s (shut s) ∷ shutBeforeTail states entries) (entry ∷ entries) ≡ isFreeTail (s ∷ states) (entry ∷ entries)
+    by h true e = rw h
+    by h false e = rw (e, isEmpty-shut)
+
+front-empty : (states : States) (entry : List ℕ) (entries : Entries) → FrontAndTail zero (openedFrom zero Erased states entries) entries
+    → (free : Bool) → (allOnes entry && isFreeTail (walk zero Erased states entries) entries) ≡ free
+    → FrontAndTail zero (cond free Empty Erased ∷ openedFrom zero Erased states entries) (entry ∷ entries)
+front-empty states entry entries f true e = only-tail (rw (isFreeTail-shutBeforeTail (walk zero Erased states entries) entries, e))
+front-empty states entry entries f false e = one-more Erased entry f (closed-erased entry (f .closed))
+
+front-erased : {states : States} {entries : Entries} (entry : List ℕ) → FrontAndTail zero states entries → FrontAndTail zero (Erased ∷ states) (entry ∷ entries)
+front-erased entry f = one-more Erased entry f (closed-erased entry (f .closed))
+
+front-kept : {k : ℕ} {states : States} {entries : Entries} (entry : List ℕ) → Whole entry k entries → FrontAndTail k states entries
+    → FrontAndTail zero (Written ∷ states) (entry ∷ entries)
+front-kept entry w f =
+    one-more Written entry f (closed-header entry (whole-front (f .bytes) (f .blanks) (closed-fits (f .closed)) (rw (f .entries-split) at w)) (f .closed))
+
+front-course : {k : ℕ} {mark : EntryMapState} {states : States} {entries : Entries} → Course k mark states entries
+    → FrontAndTail (again mark k) (openedFrom k mark states entries) entries
+front-course ends = only-tail refl
+front-course (meetsEmpty {states} {entries} entry c) =
+    front-empty states entry entries (front-course c) (allOnes entry && isFreeTail (walk zero Erased states entries) entries) refl
+front-course (meetsErased entry c) = front-erased entry (front-course c)
+front-course (meetsIllegal entry c) = front-erased entry (front-course c)
+front-course (refusesEntry entry e c) = rw e (front-erased entry (front-course c))
+front-course (refusesItem entry s c) = rw (verdict-refusedItem s) (front-erased entry (front-course c))
+front-course (keepsItem entry g c) = rw (verdict-keptItem g) (front-kept entry (g .whole) (front-course c))
+front-course (erasesBehind s entry c) = front-erased entry (front-course c)
+front-course (keepsBehind s entry u c) = let f = front-course c in one-more Written entry f (closed-covered entry (f .closed))
+front-course (goesOn {states} {entries} c) = rw (walk-zero Written Erased states entries) (front-course c)
+
+pub front-openedStates : (states : States) (entries : Entries) → length states ≡ length entries → FrontAndTail zero (openedStates states entries) entries
+unfolding openedStates
+front-openedStates states entries l = front-course (course states entries l)

@@ -1,0 +1,124 @@
+-- Laws of the sector's definitions, in the order of specs/: Layout, then Map; and bytes laid over others.
+-- Not here: what a run of marks does to each state (Marks).
+-- Assumes nothing.
+use mathlib.Core.Path.{_≡_, refl, sym, ap, _∙_}
+use mathlib.Core.Bool.{cond}
+use mathlib.Core.List.{List, [], _∷_, _++_, append-nil}
+use Prim.Native.Nat.{ℕ, zero, suc, _+_, _*_, _/_, _%_, _^_, _<_, _≤_}
+use native.Mathlib.Nat.{div-one, div-lt-iff-lt-mul, pow-suc, pow-succ'}
+use native.Mathlib.Numerals.{add-one}
+use native.Mathlib.Omega.{arith}
+use lib.ListN.{length, getD, take, drop, length-append, length-take, length-drop, length-set, drop-of-length-le}
+use lib.Pow.{pow-add}
+use lib.Seq.{drop-cons, take-at, getD-take}
+use Rattle.sector.specs.declared.EntryMapState.{EntryMapState}
+use Rattle.sector.specs.declared.EntryMapState.the-variants.{Empty, Written, Erased, Illegal}
+use Rattle.sector.specs.Layout.{number, littleEndian, field}
+use Rattle.sector.specs.Map.{bitsOf, stateAt, unpack, statesOf, sameState, countIn, statistics, mark, markRange}
+
+-- ---- little-endian numbers
+
+pub length-littleEndian : (n x : ℕ) → length (littleEndian n x) ≡ n
+length-littleEndian zero x = refl
+length-littleEndian (suc n) x = ap suc (length-littleEndian n (x / 256))
+
+pub number-littleEndian : (n x : ℕ) → x < 256 ^ n → number (littleEndian n x) ≡ x
+number-littleEndian zero x h = omega arith
+number-littleEndian (suc n) x h =
+    let bound : x < 256 ^ n * 256 = rw (pow-suc 256 n) at h in
+    let rest = number-littleEndian n (x / 256) (div-lt-iff-lt-mul (omega arith) .1 bound) in
+    omega arith
+
+pub field-cons : (offset n : ℕ) (bytes : List ℕ) → offset < length bytes
+    → field offset (suc n) bytes ≡ getD bytes offset 0 ∷ field (offset + 1) n bytes
+field-cons offset n bytes h = rw (drop-cons bytes offset 0 h, add-one offset)
+
+-- ---- bytes laid over others, as `bytes::put` leaves them
+
+abbrev pub over : List ℕ → ℕ → List ℕ → List ℕ
+over out offset bytes = take offset out ++ (bytes ++ drop (offset + length bytes) out)
+
+-- two runs of bytes, one behind the other, fill what they are laid over
+pub over-both : (out first second : List ℕ) (n : ℕ) → length first ≡ n → length out ≡ n + length second
+    → over (over out 0 first) n second ≡ first ++ second
+over-both out first second n e h =
+    let rest = drop (0 + length first) out in
+    let fits : length (first ++ rest) ≤ n + length second = simp (length-append, length-drop) (omega arith) in
+    rw (take-at first rest n e, drop-of-length-le (first ++ rest) fits, append-nil second)
+
+-- ---- states
+
+pub bits-le : (s : EntryMapState) → bitsOf s ≤ 3
+bits-le Empty = omega arith
+bits-le Written = omega arith
+bits-le Erased = omega arith
+bits-le Illegal = omega arith
+
+-- a shift by two bits for each pair passed
+pub pow-four : (k : ℕ) → 2 ^ (2 * k) ≡ 4 ^ k
+pow-four zero = refl
+pow-four (suc k) =
+    let more : 2 * suc k ≡ 2 + 2 * k = omega arith in
+    ap (λ (n : ℕ). 2 ^ n) more ∙ pow-add 2 2 (2 * k) ∙ ap (λ (n : ℕ). 4 * n) (pow-four k) ∙ sym (pow-succ' 4 k)
+
+-- ---- all states
+
+pub length-unpack : (map : List ℕ) → length (unpack map) ≡ 4 * length map
+length-unpack [] = refl
+length-unpack (byte ∷ bytes) = let rest = length-unpack bytes in omega arith
+
+-- a byte's entries are passed
+stateAt-cons : (byte : ℕ) (bytes : List ℕ) (i : ℕ) → stateAt (byte ∷ bytes) (suc (suc (suc (suc i)))) ≡ stateAt bytes i
+stateAt-cons byte bytes i =
+    let quotient : suc (suc (suc (suc i))) / 4 ≡ suc (i / 4) = omega arith in
+    let rest : suc (suc (suc (suc i))) % 4 ≡ i % 4 = omega arith in
+    rw (quotient, rest)
+
+pub getD-unpack : (map : List ℕ) (i : ℕ) → i < 4 * length map → getD (unpack map) i Empty ≡ stateAt map i
+getD-unpack [] i h = absurd (omega arith)
+getD-unpack (byte ∷ bytes) zero h = rw (div-one byte)
+getD-unpack (byte ∷ bytes) (suc zero) h = refl
+getD-unpack (byte ∷ bytes) (suc (suc zero)) h = refl
+getD-unpack (byte ∷ bytes) (suc (suc (suc zero))) h = refl
+getD-unpack (byte ∷ bytes) (suc (suc (suc (suc i)))) h =
+    getD-unpack bytes i (omega arith) ∙ sym (stateAt-cons byte bytes i)
+
+pub length-statesOf : (map : List ℕ) → length map ≡ 32 → length (statesOf map) ≡ 126
+length-statesOf map h = length-take 126 (unpack map) ∙ omega (arith, length-unpack map)
+
+pub getD-statesOf : (map : List ℕ) (i : ℕ) → length map ≡ 32 → i < 126 → getD (statesOf map) i Empty ≡ stateAt map i
+getD-statesOf map i l h = getD-take 126 (unpack map) i Empty h ∙ getD-unpack map i (omega arith)
+
+-- ---- statistics
+
+pub countIn-cons : (s t : EntryMapState) (states : List EntryMapState) → countIn s (t ∷ states) ≡ cond (sameState s t) 1 0 + countIn s states
+unfolding countIn
+countIn-cons s t states = refl
+
+pub countIn-drop : (s : EntryMapState) (states : List EntryMapState) (i : ℕ) → i < length states
+    → countIn s (drop i states) ≡ cond (sameState s (getD states i Empty)) 1 0 + countIn s (drop (i + 1) states)
+unfolding countIn
+countIn-drop s states i h = rw (drop-cons states i Empty h, add-one i)
+
+-- each entry is in one of the four states
+pub countIn-sum : (states : List EntryMapState)
+    → countIn Empty states + countIn Written states + countIn Erased states + countIn Illegal states ≡ length states
+unfolding countIn
+countIn-sum [] = refl
+countIn-sum (Empty ∷ states) = let rest = countIn-sum states in omega arith
+countIn-sum (Written ∷ states) = let rest = countIn-sum states in omega arith
+countIn-sum (Erased ∷ states) = let rest = countIn-sum states in omega arith
+countIn-sum (Illegal ∷ states) = let rest = countIn-sum states in omega arith
+
+-- the four counts add up to 126
+pub statistics-sum : (map : List ℕ) → length map ≡ 32
+    → statistics map .empty + statistics map .written + statistics map .erased + statistics map .illegal ≡ 126
+unfolding statistics
+statistics-sum map h = countIn-sum (statesOf map) ∙ length-statesOf map h
+
+-- ---- setting a range
+
+pub length-markRange : (s : EntryMapState) (i n : ℕ) (map : List ℕ) → length (markRange s i n map) ≡ length map
+unfolding markRange
+length-markRange s i zero map = refl
+length-markRange s i (suc n) map = length-markRange s (suc i) n (mark s i map) ∙ simp length-set

@@ -1,0 +1,92 @@
+// Items (raw.rs `Item`): the CRC and the hash of a header entry, and the bytes of a new one.
+ghost use mathlib.Core.Path.{_≡_};
+ghost use Rattle.flash.specs.Flash.{allOnes};
+ghost use Rattle.sector.specs.Item.{itemCrc, hashOf, loads, itemBytes, sizedData};
+use crate::bytes;
+use crate::types;
+
+// The value that every CRC of a page starts from.
+const CRC_START: u32 = 0xFFFFFFFF;
+
+// The CRC over bytes 0..4, key and data (`Item::calculate_crc32`).
+pub fn item_crc(entry: [u8; 32]) -> u32
+    ensures { λ r. ⌜ r ≡ itemCrc entry ⌝ }
+{
+    let mut covered = [0u8; 28];
+    bytes::put(&mut covered, 0, &entry[..4]);
+    bytes::put(&mut covered, 4, &entry[8..]);
+    crc::crc32(CRC_START, &covered)
+}
+
+// The hash by which a page's list finds an item (`Item::calculate_hash_ref`): the low 24 bits of a CRC.
+pub fn calculate_hash(namespace: u8, key: [u8; 16], chunk: u8) -> u32
+    ensures { λ r. ⌜ r ≡ hashOf namespace key chunk ⌝ }
+{
+    let mut hashed = [0u8; 18];
+    hashed[0] = namespace;
+    bytes::put(&mut hashed, 1, &key);
+    hashed[17] = chunk;
+    crc::crc32(CRC_START, &hashed) % 0x1000000
+}
+
+// All bytes are 0xFF.
+fn is_blank(entry: [u8; 32]) -> bool
+    ensures { λ r. ⌜ r ≡ allOnes entry ⌝ }
+{
+    for k in 0..32usize {
+        if entry[k] != 0xFF {
+            return false;
+        }
+    }
+    true
+}
+
+// Whether an entry loads (the checks of `ThinPage::load_item`): not all 0xFF, and its CRC is right once its
+// type byte is one of the thirteen.
+pub fn loads(entry: [u8; 32]) -> bool
+    ensures { λ r. ⌜ r ≡ loads entry ⌝ }
+{
+    if is_blank(entry) {
+        return false;
+    }
+    let mut item = entry;
+    item[1] = types::type_byte(item[1]);
+    let crc = item_crc(item);
+    crc == bytes::number_at(&entry, 4)
+}
+
+// The 32 bytes of a new item, its CRC among them.
+pub fn item_bytes(
+    namespace: u8,
+    kind: u8,
+    span: u8,
+    chunk: u8,
+    key: [u8; 16],
+    bytes: [u8; 8],
+) -> [u8; 32]
+    ensures { λ r. ⌜ r ≡ itemBytes namespace kind span chunk key bytes ⌝ }
+{
+    let mut entry = [0u8; 32];
+    entry[0] = namespace;
+    entry[1] = kind;
+    entry[2] = span;
+    entry[3] = chunk;
+    bytes::put(&mut entry, 8, &key);
+    bytes::put(&mut entry, 24, &bytes);
+    let crc = bytes::little_endian(item_crc(entry));
+    bytes::put(&mut entry, 4, &crc);
+    entry
+}
+
+// The data of Sized, Blob and BlobData (`ItemDataSized::new`): the payload's size and its CRC.
+pub fn sized_data(payload: &[u8]) -> [u8; 8]
+    ensures { λ r. ⌜ r ≡ sizedData (now (payload .entry)) ⌝ }
+{
+    let size = payload.len();
+    let mut data = [0xFFu8; 8];
+    data[0] = (size % 256) as u8;
+    data[1] = (size / 256 % 256) as u8;
+    let crc = bytes::little_endian(crc::crc32(CRC_START, payload));
+    bytes::put(&mut data, 4, &crc);
+    data
+}

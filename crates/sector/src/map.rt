@@ -1,0 +1,106 @@
+// The entry map: two bits an entry, entry i at bit 2 * (i mod 4) of map byte i / 4.
+ghost use mathlib.Core.Path.{_≡_};
+ghost use Prim.Native.Nat.{_+_, _*_, _<_, _≤_, _/_, _^_};
+ghost use Rattle.sector.specs.Map.{bitsOf, stateOfBits, entryBits, stateAt, entryState, statistics, markMask, markRange};
+use crate::Answer;
+use crate::EntryMapState;
+use crate::StateAnswer;
+use crate::Statistics;
+
+pub const ENTRIES_PER_PAGE: usize = 126;
+
+fn state_of_bits(bits: u8) -> EntryMapState
+    requires { ⌜ bits < 4 ⌝ }
+    ensures { λ r. ⌜ r ≡ stateOfBits bits ⌝ }
+{
+    match bits {
+        0b00 => EntryMapState::Erased,
+        0b01 => EntryMapState::Illegal,
+        0b10 => EntryMapState::Written,
+        _ => EntryMapState::Empty,
+    }
+}
+
+fn bits_of(state: EntryMapState) -> u8
+    ensures { λ r. ⌜ r ≡ bitsOf state ⌝ }
+{
+    match state {
+        EntryMapState::Empty => 0b11,
+        EntryMapState::Written => 0b10,
+        EntryMapState::Erased => 0b00,
+        EntryMapState::Illegal => 0b01,
+    }
+}
+
+// The state that a map holds for an entry.
+pub fn state_at(map: [u8; 32], index: usize) -> EntryMapState
+    requires { ⌜ index < 126 ⌝ }
+    ensures { λ r. ⌜ r ≡ stateAt map index ⌝ }
+{
+    let bits = map[index / 4] >> (2 * (index % 4));
+    state_of_bits(bits % 4)
+}
+
+// The state that a map holds for an entry (`ThinPage::get_entry_state`).
+//
+// An index over 125 is CorruptedData, which the Rust leaves to its callers: the last byte's top four bits
+// belong to no entry, and past index 127 there is no byte at all.
+pub fn get_entry_state(map: [u8; 32], index: usize) -> StateAnswer
+    ensures { λ r. ⌜ r ≡ entryState map index ⌝ }
+{
+    if index >= ENTRIES_PER_PAGE {
+        return StateAnswer {
+            answer: Answer::CorruptedData,
+            state: EntryMapState::Erased,
+        };
+    }
+    let state = state_at(map, index);
+    StateAnswer {
+        answer: Answer::Done,
+        state,
+    }
+}
+
+// How many entries are in each state (`ThinPage::get_entry_statistics`).
+pub fn get_entry_statistics(map: [u8; 32]) -> Statistics
+    ensures { λ r. ⌜ r ≡ statistics map ⌝ }
+{
+    let mut empty: u32 = 0;
+    let mut written: u32 = 0;
+    let mut erased: u32 = 0;
+    let mut illegal: u32 = 0;
+    for index in 0..126usize {
+        match state_at(map, index) {
+            EntryMapState::Empty => empty += 1,
+            EntryMapState::Written => written += 1,
+            EntryMapState::Erased => erased += 1,
+            EntryMapState::Illegal => illegal += 1,
+        }
+    }
+    Statistics {
+        empty,
+        written,
+        erased,
+        illegal,
+    }
+}
+
+// A byte of ones but for a state's bits at one of its four pairs.
+fn mark_mask(state: EntryMapState, pair: usize) -> u8
+    requires { ⌜ pair < 4 ⌝ }
+    ensures { λ r. ⌜ r ≡ markMask state pair ⌝ }
+{
+    0xFF - ((0b11 - bits_of(state)) << (2 * pair))
+}
+
+// A map with a state's bits ANDed to those of `span` entries from `index` on (`set_entry_state_range`, of the record's map).
+pub fn mark_range(map: [u8; 32], state: EntryMapState, index: usize, span: usize) -> [u8; 32]
+    requires { ⌜ index + span ≤ 126 ⌝ }
+    ensures { λ r. ⌜ r ≡ markRange state index span map ⌝ }
+{
+    let mut out = map;
+    for i in index..index + span {
+        out[i / 4] = out[i / 4] & mark_mask(state, i % 4);
+    }
+    out
+}
