@@ -1,1 +1,3 @@
 mod Edges
+pub mod Chunks
+pub mod NewItem
