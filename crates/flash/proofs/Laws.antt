@@ -136,6 +136,13 @@ program-cons (old ∷ image) zero new bytes h = refl
 program-cons (old ∷ image) (suc address) new bytes h =
     ap (λ (rest : List ℕ). old ∷ rest) (program-cons image address new bytes (le-of-suc-le-suc h))
 
+-- one byte is a store; past the end there is nothing to store to
+pub program-one : (image : List ℕ) (address new : ℕ) → program image address (new ∷ []) ≡ set image address (bitAnd (getD image address 0) new)
+unfolding program
+program-one [] address new = refl
+program-one (old ∷ image) zero new = ap (λ (rest : List ℕ). bitAnd old new ∷ rest) (program-nil image zero)
+program-one (old ∷ image) (suc address) new = ap (λ (rest : List ℕ). old ∷ rest) (program-one image address new)
+
 -- some bytes, and then those behind them
 pub program-append : (image : List ℕ) (address : ℕ) (xs ys : List ℕ)
     → program image address (xs ++ ys) ≡ program (program image address xs) (address + length xs) ys
@@ -312,7 +319,7 @@ program-erased {bytes} n front rest b h =
 
 -- ---- the units of a write
 
-four-suc : (n : ℕ) → 4 * suc n ≡ suc (suc (suc (suc (4 * n))))
+pub four-suc : (n : ℕ) → 4 * suc n ≡ suc (suc (suc (suc (4 * n))))
 four-suc n = omega arith
 
 four-more : (n : ℕ) → suc (suc (suc (suc n))) / 4 ≡ suc (n / 4)

@@ -2,12 +2,12 @@
 --
 -- In order: the front; its items are good, whatever lies behind; fronts joined; walk, items and opened states over a front and a rest.
 -- Assumes nothing.
-use mathlib.Core.Path.{_≡_, refl, ap, _∙_}
+use mathlib.Core.Path.{_≡_, refl, sym, ap, _∙_}
 use mathlib.Core.Bool.{true}
 use mathlib.Core.List.{List, [], _∷_, _++_, append-nil}
 use Prim.Native.Nat.{ℕ, zero, suc, _≤_, _+_, zero-le, suc-le-suc}
-use native.Mathlib.Nat.{add-zero, add-suc, suc-add}
-use lib.ListN.{length, take}
+use native.Mathlib.Nat.{suc-inj, suc-ne-zero, add-zero, add-suc, suc-add}
+use lib.ListN.{length, take, replicate}
 use lib.Seq.{take-append-le}
 use Rattle.sector.specs.declared.EntryMapState.the-variants.{Written, Erased}
 use Rattle.opening.specs.Reading.{usable, walk, Item, item, keptFrom, shutBeforeTail, openedStates}
@@ -59,6 +59,21 @@ closed-append closed-nil d = d
 closed-append (closed-erased entry c) d = closed-erased entry (closed-append c d)
 closed-append {others = others} (closed-header entry w c) d = closed-header entry (whole-append others w) (closed-append c d)
 closed-append (closed-covered entry c) d = closed-covered entry (closed-append c d)
+
+-- the marks of a new item, over its bytes
+closed-marked : (k : ℕ) (new : Entries) → length new ≡ k → Closed k (replicate k Written) new
+closed-marked zero [] l = closed-nil
+closed-marked zero (entry ∷ new) l = absurd (suc-ne-zero (length new) l)
+closed-marked (suc k) [] l = absurd (suc-ne-zero k (sym l))
+closed-marked (suc k) (entry ∷ new) l = closed-covered entry (closed-marked k new (suc-inj l))
+
+pub closed-item : {entry : List ℕ} {new : Entries} → Whole entry (length new) new → Closed zero (replicate (suc (length new)) Written) (entry ∷ new)
+closed-item {entry} {new} w = closed-header entry w (closed-marked (length new) new refl)
+
+-- an item appended to a front keeps it closed
+pub closed-append-item : {entry : List ℕ} {front : States} {bytes new : Entries} → Closed zero front bytes → Whole entry (length new) new
+    → Closed zero (front ++ replicate (suc (length new)) Written) (bytes ++ entry ∷ new)
+closed-append-item c w = closed-append c (closed-item w)
 
 -- ---- the reading of a front and a rest
 

@@ -4,3 +4,4 @@ pub mod Midway
 pub mod Reopened
 pub mod Closed
 pub mod OpenedFront
+pub mod Cuts
