@@ -17,7 +17,7 @@ unfolding chunks
 length-chunks zero bytes = refl
 length-chunks (suc n) bytes = ap suc (length-chunks n (drop 32 bytes))
 
-suc-entries : (n : ℕ) → 32 * suc n ≡ 32 + 32 * n
+pub suc-entries : (n : ℕ) → 32 * suc n ≡ 32 + 32 * n
 suc-entries n = omega arith
 
 -- the first n entries of bytes that are n entries and more

@@ -1,3 +1,5 @@
 mod Edges
 pub mod Chunks
 pub mod NewItem
+pub mod Standing
+pub mod MapUnits
