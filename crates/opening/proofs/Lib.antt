@@ -3,5 +3,7 @@ pub mod Course
 pub mod Midway
 pub mod Reopened
 pub mod Closed
-pub mod OpenedFront
 pub mod Cuts
+pub mod OpenedFront
+pub mod KeptItem
+pub mod ErasedBytes

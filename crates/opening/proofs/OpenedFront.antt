@@ -1,20 +1,25 @@
 -- What opening leaves: a closed front, and behind it the free tail.
 --
--- In order: front and tail; opening leaves them. Assumes nothing.
-use mathlib.Core.Path.{_≡_, refl, ap}
-use mathlib.Core.Bool.{Bool, true, false, _&&_, cond}
+-- In order: front and tail; opening leaves them; the free tail is Empty and all 0xFF; an opened page; its counts. Assumes nothing.
+use mathlib.Core.Path.{_≡_, refl, sym, ap, ap₂, _∙_}
+use mathlib.Core.Bool.{Bool, true, false, _&&_, cond, and-eq-true-iff}
 use mathlib.Core.List.{List, [], _∷_, _++_}
-use Prim.Native.Nat.{ℕ, zero}
-use lib.ListN.{length}
-use Rattle.flash.specs.Flash.{allOnes}
+use Prim.Native.Nat.{ℕ, zero, suc, _+_}
+use native.Mathlib.Nat.{suc-inj, suc-ne-zero}
+use native.Mathlib.Omega.{arith}
+use lib.ListN.{length, replicate, length-append}
+use Rattle.flash.specs.Flash.{every, allOnes}
 use Rattle.sector.specs.declared.EntryMapState.{EntryMapState}
 use Rattle.sector.specs.declared.EntryMapState.the-variants.{Empty, Written, Erased, Illegal}
+use Rattle.sector.specs.Map.{sameState, countIn}
+use Rattle.sector.proofs.Marks.{countIn-append}
 use Rattle.opening.specs.Reading.{walk, isEmpty, isFreeTail, shut, shutBeforeTail, openedStates}
 use Rattle.opening.proofs.Verdicts.{States, Entries, Whole, whole-front, verdict-refusedItem, verdict-keptItem}
 use Rattle.opening.proofs.Course.{Course, ends, meetsEmpty, meetsErased, meetsIllegal, refusesEntry, refusesItem, keepsItem, erasesBehind, keepsBehind, goesOn, course}
 use Rattle.opening.proofs.Midway.{walk-zero}
-use Rattle.opening.proofs.Reopened.{openedFrom, again}
-use Rattle.opening.proofs.Closed.{Closed, closed-nil, closed-erased, closed-header, closed-covered, closed-fits}
+use Rattle.opening.proofs.Reopened.{openedFrom, again, length-openedStates}
+use Rattle.opening.proofs.Closed.{Closed, closed-nil, closed-erased, closed-header, closed-covered, closed-fits, length-closed}
+use Rattle.opening.proofs.Cuts.{openedStates-unmarked-blank}
 
 -- ---- front and tail
 
@@ -102,6 +107,89 @@ front-course (erasesBehind s entry c) = front-erased entry (front-course c)
 front-course (keepsBehind s entry u c) = let f = front-course c in one-more Written entry f (closed-covered entry (f .closed))
 front-course (goesOn {states} {entries} c) = rw (walk-zero Written Erased states entries) (front-course c)
 
-pub front-openedStates : (states : States) (entries : Entries) → length states ≡ length entries → FrontAndTail zero (openedStates states entries) entries
+front-openedStates : (states : States) (entries : Entries) → length states ≡ length entries → FrontAndTail zero (openedStates states entries) entries
 unfolding openedStates
 front-openedStates states entries l = front-course (course states entries l)
+
+-- ---- the free tail
+
+isEmpty-true : (s : EntryMapState) → isEmpty s ≡ true → s ≡ Empty
+isEmpty-true Empty e = refl
+isEmpty-true Written e = cc
+isEmpty-true Erased e = cc
+isEmpty-true Illegal e = cc
+
+-- all of it is Empty and all 0xFF
+freeTail : (tail : States) (blanks : Entries) → length tail ≡ length blanks → isFreeTail tail blanks ≡ true
+    → (tail ≡ replicate (length blanks) Empty) × (every allOnes blanks ≡ true)
+freeTail [] [] l e = (refl, refl)
+freeTail [] (entry ∷ blanks) l e = absurd (suc-ne-zero (length blanks) (sym l))
+freeTail (s ∷ tail) [] l e = absurd (suc-ne-zero (length tail) l)
+freeTail (s ∷ tail) (entry ∷ blanks) l e =
+    let first = and-eq-true-iff (isEmpty s) (allOnes entry && isFreeTail tail blanks) .0 e in
+    let second = and-eq-true-iff (allOnes entry) (isFreeTail tail blanks) .0 (first .1) in
+    let rest = freeTail tail blanks (suc-inj l) (second .1) in
+    (ap₂ (λ (t : EntryMapState) (states : States). t ∷ states) (isEmpty-true s (first .0)) (rest .0), rw (second .0) (rest .1))
+
+-- ---- an opened page
+
+-- a closed front, then entries that are Empty and all 0xFF
+pub record Opened (states : States) (entries : Entries) : Type 0 where
+  pub front : States
+  pub bytes : Entries
+  pub blanks : Entries
+  pub states-split : states ≡ front ++ replicate (length blanks) Empty
+  pub entries-split : entries ≡ bytes ++ blanks
+  pub closed : Closed zero front bytes
+  pub blank : every allOnes blanks ≡ true
+
+opened-front : {states : States} {entries : Entries} → length states ≡ length entries → FrontAndTail zero states entries → Opened states entries
+opened-front l f =
+    let states-long = ap length (f .states-split) ∙ length-append (f .front) (f .tail) in
+    let entries-long = ap length (f .entries-split) ∙ length-append (f .bytes) (f .blanks) in
+    let rest = freeTail (f .tail) (f .blanks) (omega (arith, length-closed (f .closed))) (f .free) in
+    record {
+      front = f .front;
+      bytes = f .bytes;
+      blanks = f .blanks;
+      states-split = f .states-split ∙ ap (λ (tail : States). f .front ++ tail) (rest .0);
+      entries-split = f .entries-split;
+      closed = f .closed;
+      blank = rest .1;
+    }
+
+-- what opening leaves
+pub opened : (states : States) (entries : Entries) → length states ≡ length entries → Opened (openedStates states entries) entries
+opened states entries l = opened-front (length-openedStates states entries ∙ l) (front-openedStates states entries l)
+
+-- opening leaves an opened page as it is
+pub openedStates-opened : {states : States} {entries : Entries} → Opened states entries → openedStates states entries ≡ states
+openedStates-opened o = rw (o .states-split, o .entries-split) (openedStates-unmarked-blank (o .closed) (o .blanks) (o .blank))
+
+-- ---- the counts
+
+-- in a closed front each entry is Written or Erased
+count-closed : {k : ℕ} {front : States} {bytes : Entries} → Closed k front bytes → countIn Written front + countIn Erased front ≡ length front
+unfolding countIn
+count-closed closed-nil = refl
+count-closed (closed-erased entry c) = let rest = count-closed c in omega arith
+count-closed (closed-header entry w c) = let rest = count-closed c in omega arith
+count-closed (closed-covered entry c) = let rest = count-closed c in omega arith
+
+count-empties : (s : EntryMapState) (n : ℕ) → sameState s Empty ≡ false → countIn s (replicate n Empty) ≡ 0
+unfolding countIn
+count-empties s zero e = refl
+count-empties s (suc n) e = rw (e, count-empties s n e)
+
+-- the next free entry is the one behind the front
+pub count-opened : {states : States} {entries : Entries} (o : Opened states entries) → countIn Written states + countIn Erased states ≡ length (o .front)
+count-opened o =
+    let tail = replicate (length (o .blanks)) Empty in
+    rw (
+      o .states-split,
+      countIn-append Written (o .front) tail,
+      countIn-append Erased (o .front) tail,
+      count-empties Written (length (o .blanks)) refl,
+      count-empties Erased (length (o .blanks)) refl,
+    )
+    (omega (arith, count-closed (o .closed)))

@@ -9,6 +9,7 @@ use lib.ListN.{length}
 use Rattle.flash.specs.Flash.{allOnes}
 use Rattle.sector.specs.declared.EntryMapState.{EntryMapState}
 use Rattle.sector.specs.declared.EntryMapState.the-variants.{Empty, Written, Erased, Illegal}
+use Rattle.sector.proofs.Marks.{both, both-erased, StatesClear, states-nil, states-cons}
 use Rattle.opening.specs.Reading.{isUsable, usable, verdictAt, stepsOver, markBehind, walk, keptFrom, isFreeTail, shutBeforeTail, openedStates}
 use Rattle.opening.proofs.Verdicts.{States, Entries, Good, verdict-refusedItem, verdict-keptItem}
 use Rattle.opening.proofs.Course.{Course, ends, meetsEmpty, meetsErased, meetsIllegal, refusesEntry, refusesItem, keepsItem, erasesBehind, keepsBehind, goesOn, course}
@@ -55,20 +56,20 @@ good-opened : {k : ℕ} {entry : List ℕ} {states : States} {entries : Entries}
 good-opened g c = record { whole = g .whole; clear = usable-opened c }
 
 pub opened-midway : {k : ℕ} {mark : EntryMapState} {states : States} {entries : Entries} → Course k mark states entries
-    → Midway (again mark k) k mark (openedFrom k mark states entries) states entries
+    → Midway (again mark k) k mark (openedFrom k mark states entries) states entries entries
 opened-midway ends = Midway.ends
 opened-midway (meetsEmpty {states} {entries} entry c) = by (opened-midway c) (allOnes entry && isFreeTail (walk zero Erased states entries) entries) refl
   where
-    by : Midway zero zero Erased (openedFrom zero Erased states entries) states entries → (free : Bool)
+    by : Midway zero zero Erased (openedFrom zero Erased states entries) states entries entries → (free : Bool)
         → (allOnes entry && isFreeTail (walk zero Erased states entries) entries) ≡ free
-        → Midway zero zero Erased (cond free Empty Erased ∷ openedFrom zero Erased states entries) (Empty ∷ states) (entry ∷ entries)
+        → Midway zero zero Erased (cond free Empty Erased ∷ openedFrom zero Erased states entries) (Empty ∷ states) (entry ∷ entries) (entry ∷ entries)
     by m true e = Midway.stillEmpty entry m
     by m false e = Midway.shutEmpty entry isErased e m
-opened-midway (meetsErased entry c) = Midway.shutGone entry isErased isErased (opened-midway c)
-opened-midway (meetsIllegal entry c) = Midway.shutGone entry isErased isIllegal (opened-midway c)
+opened-midway (meetsErased entry c) = Midway.shutGone entry entry isErased isErased (opened-midway c)
+opened-midway (meetsIllegal entry c) = Midway.shutGone entry entry isErased isIllegal (opened-midway c)
 opened-midway (refusesEntry entry e c) = rw e (Midway.erasedEntry entry e (opened-midway c))
 opened-midway (refusesItem entry s c) = rw (verdict-refusedItem s) (Midway.erasedItem entry s (opened-midway c))
-opened-midway (keepsItem entry g c) = rw (verdict-keptItem g) (Midway.keepsItem entry (good-opened g c) g (opened-midway c))
+opened-midway (keepsItem entry g c) = rw (verdict-keptItem g) (Midway.keepsItem entry (good-opened g c) g refl (opened-midway c))
 opened-midway (erasesBehind s entry c) = Midway.goneBehind s entry isErased (opened-midway c)
 opened-midway (keepsBehind s entry u c) = Midway.keepsBehind Written s entry (opened-midway c)
 opened-midway (goesOn {states} {entries} c) = rw (walk-zero Written Erased states entries) (Midway.goesOn (opened-midway c))
@@ -87,30 +88,6 @@ kept-openedStates i states entries l = midway-kept i (opened-midway (course stat
 
 -- ---- bits only cleared
 
--- the state whose bits are those that both have
-abbrev pub both : EntryMapState → EntryMapState → EntryMapState
-both Empty t = t
-both Written Empty = Written
-both Written Written = Written
-both Written Erased = Erased
-both Written Illegal = Erased
-both Erased t = Erased
-both Illegal Empty = Illegal
-both Illegal Written = Erased
-both Illegal Erased = Erased
-both Illegal Illegal = Illegal
-
--- each new state has no bit that the old one lacks
-pub data Clears : States → States → Type 0 where
-  clears-nil : Clears [] []
-  clears-cons : {s t : EntryMapState} {states news : States} → both s t ≡ t → Clears states news → Clears (s ∷ states) (t ∷ news)
-
-both-erased : (s : EntryMapState) → both s Erased ≡ Erased
-both-erased Empty = refl
-both-erased Written = refl
-both-erased Erased = refl
-both-erased Illegal = refl
-
 both-written : (s : EntryMapState) → isUsable s ≡ true → both s Written ≡ Written
 both-written Empty u = refl
 both-written Written u = refl
@@ -118,18 +95,18 @@ both-written Erased u = cc
 both-written Illegal u = cc
 
 clears-course : {k : ℕ} {mark : EntryMapState} {states : States} {entries : Entries} → Course k mark states entries
-    → Clears states (openedFrom k mark states entries)
-clears-course ends = clears-nil
-clears-course (meetsEmpty entry c) = clears-cons refl (clears-course c)
-clears-course (meetsErased entry c) = clears-cons refl (clears-course c)
-clears-course (meetsIllegal entry c) = clears-cons refl (clears-course c)
-clears-course (refusesEntry entry e c) = rw e (clears-cons refl (clears-course c))
-clears-course (refusesItem entry s c) = rw (verdict-refusedItem s) (clears-cons refl (clears-course c))
-clears-course (keepsItem entry g c) = rw (verdict-keptItem g) (clears-cons refl (clears-course c))
-clears-course (erasesBehind s entry c) = clears-cons (both-erased s) (clears-course c)
-clears-course (keepsBehind s entry u c) = clears-cons (both-written s u) (clears-course c)
+    → StatesClear states (openedFrom k mark states entries)
+clears-course ends = states-nil
+clears-course (meetsEmpty entry c) = states-cons refl (clears-course c)
+clears-course (meetsErased entry c) = states-cons refl (clears-course c)
+clears-course (meetsIllegal entry c) = states-cons refl (clears-course c)
+clears-course (refusesEntry entry e c) = rw e (states-cons refl (clears-course c))
+clears-course (refusesItem entry s c) = rw (verdict-refusedItem s) (states-cons refl (clears-course c))
+clears-course (keepsItem entry g c) = rw (verdict-keptItem g) (states-cons refl (clears-course c))
+clears-course (erasesBehind s entry c) = states-cons (both-erased s) (clears-course c)
+clears-course (keepsBehind s entry u c) = states-cons (both-written s u) (clears-course c)
 clears-course (goesOn {states} {entries} c) = rw (walk-zero Written Erased states entries) (clears-course c)
 
-pub clears-openedStates : (states : States) (entries : Entries) → length states ≡ length entries → Clears states (openedStates states entries)
+pub clears-openedStates : (states : States) (entries : Entries) → length states ≡ length entries → StatesClear states (openedStates states entries)
 unfolding openedStates
 clears-openedStates states entries l = clears-course (course states entries l)

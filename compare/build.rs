@@ -1,0 +1,45 @@
+//! Names the files of the original to the compiler, unchanged and where they lie.
+//!
+//! NVS_SOURCE names their folder, from the repository's root where it is no absolute path. Without it the folder is
+//! ../shared/docs/src, next to the repository.
+
+use std::env;
+use std::fmt::Write;
+use std::fs;
+use std::path::Path;
+
+const FILES: [&str; 14] = [
+    "blob",
+    "compaction",
+    "error",
+    "get",
+    "init",
+    "items",
+    "mem_flash",
+    "nvs",
+    "page",
+    "platform",
+    "raw",
+    "set",
+    "types",
+    "u24",
+];
+
+fn main() {
+    println!("cargo:rerun-if-env-changed=NVS_SOURCE");
+    let root = Path::new(env!("CARGO_MANIFEST_DIR")).parent().expect("the crate lies in the repository");
+    let named = env::var("NVS_SOURCE").unwrap_or("../shared/docs/src".into());
+    let folder = root.join(named);
+    let folder = folder.canonicalize().unwrap_or_else(|_| {
+        panic!("{}: the folder of the original is not there; NVS_SOURCE names another", folder.display())
+    });
+    let mut modules = String::new();
+    for name in FILES {
+        let file = folder.join(name).with_extension("rs");
+        assert!(file.is_file(), "{}: this file of the original is not there", file.display());
+        println!("cargo:rerun-if-changed={}", file.display());
+        writeln!(modules, "#[allow(dead_code, clippy::all)] #[path = {file:?}] mod {name};").unwrap();
+    }
+    let out = env::var("OUT_DIR").expect("cargo names the folder for what is made");
+    fs::write(Path::new(&out).join("original.rs"), modules).expect("the list of modules is written");
+}

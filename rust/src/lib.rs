@@ -1,0 +1,4 @@
+//! The page calls for firmware in Rust.
+#![no_std]
+
+pub mod sys;
