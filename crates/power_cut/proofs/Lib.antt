@@ -3,3 +3,4 @@ pub mod Chunks
 pub mod NewItem
 pub mod Standing
 pub mod MapUnits
+pub mod OpenedPage

@@ -116,7 +116,7 @@ module _ {image : List ℕ} {items : List Item} (p : Standing image items) where
   standing-opened =
       let free = chunks (p .spare) blanks in
       let states : statesOf (mapOf image) ≡ p .front ++ replicate (length free) Empty =
-          standing-states ∙ ap (λ (n : ℕ). p .front ++ replicate n Empty) (sym (length-chunks (p .spare) blanks)) in
+      standing-states ∙ ap (λ (n : ℕ). p .front ++ replicate n Empty) (sym (length-chunks (p .spare) blanks)) in
       ap₂ openedStates states standing-entries ∙ openedStates-unmarked-blank (p .closed) free (blank-chunks (p .spare)) ∙ sym states
 
   map-bytes : Bytes (mapOf image)
