@@ -4,3 +4,4 @@ pub mod NewItem
 pub mod Standing
 pub mod MapUnits
 pub mod OpenedPage
+pub mod Begun

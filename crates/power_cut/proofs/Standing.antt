@@ -2,7 +2,7 @@
 --
 -- In order: the page; what its parts are; what the reading keeps of it; that opening changes nothing of it.
 -- Assumes nothing.
-use mathlib.Core.Path.{_≡_, refl, sym, ap, ap₂, _∙_}
+use mathlib.Core.Path.{_≡_, refl, sym, ap, ap₂, _∙_, subst}
 use mathlib.Core.Bool.{Bool, true, false, _&&_, cond}
 use mathlib.Core.List.{List, [], _∷_, _++_, append-assoc}
 use Prim.Native.Nat.{ℕ, zero, suc, _+_, _-_, _*_, _≤_}
@@ -96,6 +96,9 @@ module _ {image : List ℕ} {items : List Item} (p : Standing image items) where
   -- its map
   pub standing-map : mapOf image ≡ p .map
   standing-map = ap mapOf (p .split) ∙ mapOf-parts (p .header) (p .map) (p .used ++ blanks) (p .header-size) (p .map-size)
+
+  pub standing-map-bytes : Bytes (p .map)
+  standing-map-bytes = subst Bytes standing-map (bytes-take 32 (bytes-drop 32 (p .bytes)))
 
   pub standing-states : statesOf (mapOf image) ≡ p .front ++ replicate (p .spare) Empty
   standing-states = ap statesOf standing-map ∙ p .states
