@@ -2,10 +2,10 @@
 --
 -- In order: raw read; load; load data, its checks and the output. The payload CRC is not checked here.
 -- Assumes nothing.
-use mathlib.Core.Bool.{Bool, true, false, _&&_, _||_, not, cond}
+use mathlib.Core.Bool.{not, cond}
 use mathlib.Core.List.{List, [], _∷_, _++_}
 use Prim.Native.Nat.{ℕ, _+_, _-_, _*_, _/_}
-use lib.Dec.{eqb, leb, ltb}
+use lib.Dec.{eqb, ltb}
 use lib.ListN.{length, take, drop, replicate}
 use Rattle.sector.specs.declared.Answer.{Answer}
 use Rattle.sector.specs.declared.Answer.the-variants.{Done, BadImage, KeyNotFound, ItemTypeMismatch, CorruptedData}
@@ -18,6 +18,10 @@ use Rattle.load.specs.declared.Loaded.{Loaded}
 
 -- ---- raw read
 
+-- zeros, with a refusal
+abbrev pub refusedItem : Answer → Loaded
+refusedItem answer = record { answer = answer; item = replicate entrySize 0 }
+
 -- image not 4,096 bytes, then an index over 125
 abbrev pub entryChecks : List ℕ → ℕ → List Check
 entryChecks image i =
@@ -28,7 +32,7 @@ abbrev pub loadedOr : List Check → List ℕ → Loaded
 loadedOr checks item =
     cond (accepted checks)
     (record { answer = Done; item = item })
-    (record { answer = refusal checks; item = replicate entrySize 0 })
+    (refusedItem (refusal checks))
 
 -- the 32 bytes as they lie
 unfoldable pub rawEntry : List ℕ → ℕ → Loaded
@@ -54,19 +58,19 @@ loadItem image i = loadedOr (loadChecks image i) (sanitized (entryAt image i))
 abbrev pub roundedUp : ℕ → ℕ
 roundedUp size = (size + 3) / 4 * 4
 
--- load's; type not Sized, Blob or BlobData; span 0; index + span over 126; size over 32 * (span - 1); output shorter than the rounded size
-abbrev pub dataChecks : List ℕ → ℕ → ℕ → List Check
-dataChecks image i room =
-    let entry = entryAt image i in
-    (not (eqb (length image) sectorSize), BadImage)
-    ∷ (not (ltb i entriesPerPage), CorruptedData)
-    ∷ (not (loads entry), KeyNotFound)
-    ∷ (not (hasPayload (itemType (typeByteOf entry))), ItemTypeMismatch (typeByte (typeByteOf entry)))
+-- type not Sized, Blob or BlobData; span 0; index + span over 126; size over 32 * (span - 1); output shorter than the rounded size
+abbrev pub payloadChecks : List ℕ → ℕ → ℕ → List Check
+payloadChecks entry i room =
+    (not (hasPayload (itemType (typeByteOf entry))), ItemTypeMismatch (typeByte (typeByteOf entry)))
     ∷ (eqb (spanOf entry) 0, CorruptedData)
     ∷ (ltb entriesPerPage (i + spanOf entry), CorruptedData)
     ∷ (ltb (entrySize * (spanOf entry - 1)) (sizeOf entry), CorruptedData)
     ∷ (ltb room (roundedUp (sizeOf entry)), CorruptedData)
     ∷ []
+
+-- load's, then the payload's
+abbrev pub dataChecks : List ℕ → ℕ → ℕ → List Check
+dataChecks image i room = loadChecks image i ++ payloadChecks (entryAt image i) i room
 
 -- the answer carries the size
 unfoldable pub dataAnswer : List ℕ → ℕ → ℕ → DataLoaded

@@ -7,3 +7,4 @@ pub mod Cuts
 pub mod OpenedFront
 pub mod KeptItem
 pub mod ErasedBytes
+pub mod TwoPasses

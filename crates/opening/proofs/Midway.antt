@@ -71,13 +71,24 @@ pub data Midway : ℕ → ℕ → EntryMapState → States → States → Entrie
       → Midway k k Erased mid old bytes entries
       → Midway (suc k) (suc k) Erased (s ∷ mid) (t ∷ old) (other ∷ bytes) (entry ∷ entries)
   -- the header is erased already: what it stepped over is met entry by entry
-  goneBehind : {s : EntryMapState} {k : ℕ} {mid old : States} {bytes entries : Entries} (t : EntryMapState) (entry : List ℕ)
+  goneBehind : {s : EntryMapState} {k : ℕ} {mid old : States} {bytes entries : Entries} (t : EntryMapState) (other entry : List ℕ)
       → Gone s → Midway zero k Erased mid old bytes entries
-      → Midway zero (suc k) Erased (s ∷ mid) (t ∷ old) (entry ∷ bytes) (entry ∷ entries)
+      → Midway zero (suc k) Erased (s ∷ mid) (t ∷ old) (other ∷ bytes) (entry ∷ entries)
   keepsBehind : {k : ℕ} {mid old : States} {bytes entries : Entries} (s t : EntryMapState) (entry : List ℕ)
       → Midway k k Written mid old bytes entries
       → Midway (suc k) (suc k) Written (s ∷ mid) (t ∷ old) (entry ∷ bytes) (entry ∷ entries)
   goesOn : {mid old : States} {bytes entries : Entries} → Midway zero zero Erased mid old bytes entries → Midway zero zero Written mid old bytes entries
+
+-- the next k states are gone
+pub data AllGone : ℕ → States → Type 0 where
+  gone-zero : {mid : States} → AllGone zero mid
+  gone-suc : {k : ℕ} {s : EntryMapState} {mid : States} → Gone s → AllGone k mid → AllGone (suc k) (s ∷ mid)
+
+-- then it makes no difference whether the walk steps over them
+pub midway-gone : {mid old : States} {bytes entries : Entries} (k : ℕ) → AllGone k mid → Midway k k Erased mid old bytes entries
+    → Midway zero k Erased mid old bytes entries
+midway-gone zero a m = m
+midway-gone (suc k) (gone-suc g a) (erasesBehind s t other entry m) = goneBehind t other entry g (midway-gone k a m)
 
 -- ---- the walk comes out alike
 
@@ -103,8 +114,8 @@ midway-alike (refusesItem entry s t m) = rw (verdict-refusedItem s, verdict-refu
 midway-alike (erasedItem entry t m) = rw (verdict-refusedItem t) (alike-cons Erased entry (midway-alike m))
 midway-alike (keepsItem entry g h e m) = rw (verdict-keptItem g, verdict-keptItem h) (alike-cons Written entry (midway-alike m))
 midway-alike (erasesBehind s t other entry m) = alike-shut refl refl refl (midway-alike m)
-midway-alike (goneBehind t entry isErased m) = alike-cons Erased entry (midway-alike m)
-midway-alike (goneBehind t entry isIllegal m) = alike-shut refl refl refl (midway-alike m)
+midway-alike (goneBehind t other entry isErased m) = alike-shut refl refl refl (midway-alike m)
+midway-alike (goneBehind t other entry isIllegal m) = alike-shut refl refl refl (midway-alike m)
 midway-alike (keepsBehind s t entry m) = alike-cons Written entry (midway-alike m)
 midway-alike (goesOn {mid} {old} {bytes} {entries} m) = rw (walk-zero Written Erased mid bytes, walk-zero Written Erased old entries) (midway-alike m)
 
@@ -127,7 +138,7 @@ midway-kept i (erasedItem entry t m) = rw (verdict-refusedItem t) (midway-kept (
 midway-kept i (keepsItem {k} {entries = entries} entry g h e m) =
     rw (verdict-keptItem g, verdict-keptItem h, e) (ap (λ (items : List Item). item i (entry ∷ take k entries) ∷ items) (midway-kept (suc i) m))
 midway-kept i (erasesBehind s t other entry m) = midway-kept (suc i) m
-midway-kept i (goneBehind t entry isErased m) = midway-kept (suc i) m
-midway-kept i (goneBehind t entry isIllegal m) = midway-kept (suc i) m
+midway-kept i (goneBehind t other entry isErased m) = midway-kept (suc i) m
+midway-kept i (goneBehind t other entry isIllegal m) = midway-kept (suc i) m
 midway-kept i (keepsBehind s t entry m) = midway-kept (suc i) m
 midway-kept i (goesOn m) = midway-kept i m

@@ -70,7 +70,7 @@ opened-midway (meetsIllegal entry c) = Midway.shutGone entry entry isErased isIl
 opened-midway (refusesEntry entry e c) = rw e (Midway.erasedEntry entry e (opened-midway c))
 opened-midway (refusesItem entry s c) = rw (verdict-refusedItem s) (Midway.erasedItem entry s (opened-midway c))
 opened-midway (keepsItem entry g c) = rw (verdict-keptItem g) (Midway.keepsItem entry (good-opened g c) g refl (opened-midway c))
-opened-midway (erasesBehind s entry c) = Midway.goneBehind s entry isErased (opened-midway c)
+opened-midway (erasesBehind s entry c) = Midway.goneBehind s entry entry isErased (opened-midway c)
 opened-midway (keepsBehind s entry u c) = Midway.keepsBehind Written s entry (opened-midway c)
 opened-midway (goesOn {states} {entries} c) = rw (walk-zero Written Erased states entries) (Midway.goesOn (opened-midway c))
 
@@ -88,7 +88,7 @@ kept-openedStates i states entries l = midway-kept i (opened-midway (course stat
 
 -- ---- bits only cleared
 
-both-written : (s : EntryMapState) → isUsable s ≡ true → both s Written ≡ Written
+pub both-written : (s : EntryMapState) → isUsable s ≡ true → both s Written ≡ Written
 both-written Empty u = refl
 both-written Written u = refl
 both-written Erased u = cc

@@ -1,4 +1,6 @@
 // The record of a page (page.rs, ThinPage), by value, and whether it is fit to use.
+pub mod fit;
+
 use sector::Answer;
 use sector::PageState;
 

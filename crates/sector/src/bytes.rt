@@ -1,11 +1,11 @@
-// Bytes at offsets: what the Rust does by unions and `transmute`.
+// Bytes at offsets, which the Rust reads and writes through unions and `transmute`.
 ghost use mathlib.Core.Path.{_≡_};
 ghost use mathlib.Core.List.{[], _∷_, _++_};
 ghost use Prim.Native.Nat.{_+_, _≤_};
 ghost use lib.ListN.{length, take, drop};
 ghost use Rattle.sector.specs.Layout.{number, field, littleEndian};
 
-// The four bytes of a number, lowest first.
+// The four bytes of a number, lowest first (`u32::to_le_bytes`).
 pub fn little_endian(word: u32) -> [u8; 4]
     ensures { λ r. ⌜ r ≡ littleEndian 4 word ⌝ }
 {
@@ -20,14 +20,13 @@ pub fn little_endian(word: u32) -> [u8; 4]
     ]
 }
 
-// The number that four bytes hold, lowest first.
 fn number(first: u8, second: u8, third: u8, fourth: u8) -> u32
     ensures { λ r. ⌜ r ≡ number (first ∷ second ∷ third ∷ fourth ∷ []) ⌝ }
 {
     first as u32 + 256 * (second as u32 + 256 * (third as u32 + 256 * (fourth as u32)))
 }
 
-// The number in the four bytes from an offset on.
+// The number in the four bytes from an offset on, lowest first (`u32::from_le_bytes`).
 pub fn number_at(bytes: &[u8], offset: usize) -> u32
     requires { ⌜ offset + 4 ≤ length (now bytes) ⌝ }
     ensures { λ r. ⌜ r ≡ number (field offset 4 (now (bytes .entry))) ⌝ }
@@ -40,7 +39,7 @@ pub fn number_at(bytes: &[u8], offset: usize) -> u32
     )
 }
 
-// The bytes take the place of what lies at an offset.
+// Lays bytes over what stands at an offset (`copy_from_slice`).
 pub(crate) fn put(out: &mut [u8], offset: usize, bytes: &[u8])
     requires { ⌜ offset + length (now bytes) ≤ length (now out) ⌝ }
     ensures { λ _. ⌜ now (out .exit) ≡ take offset (now (out .entry)) ++ (now (bytes .entry) ++ drop (offset + length (now (bytes .entry))) (now (out .entry))) ⌝ }

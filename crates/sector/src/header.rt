@@ -1,36 +1,44 @@
 // The page header (raw.rs `PageHeader`): its state word, its CRC, and the bytes of a new one.
 ghost use mathlib.Core.Path.{_≡_};
 ghost use Rattle.sector.specs.Header.{headerCrc, stateOfWord, headerBytes};
+use crate::CRC_START;
+use crate::PAGE_STATE_ACTIVE;
+use crate::PAGE_STATE_FREEING;
+use crate::PAGE_STATE_FULL;
+use crate::PAGE_STATE_INVALID;
+use crate::PAGE_STATE_UNINITIALIZED;
 use crate::PageState;
 use crate::bytes;
 
-// The CRC over bytes 4..28 (`PageHeader::calculate_crc32`).
+// The CRC over bytes 4..28 of a header (`PageHeader::calculate_crc32`): neither the state word, which changes
+// as the page fills, nor the CRC's own place.
 pub fn header_crc(header: [u8; 32]) -> u32
     ensures { λ r. ⌜ r ≡ headerCrc header ⌝ }
 {
-    crc::crc32(0xFFFFFFFF, &header[4..28])
+    crc::crc32(CRC_START, &header[4..28])
 }
 
-// The page state that a word stands for (`PageState::from`).
+// The page state that a header's word stands for (`PageState::from`): any other word is Corrupt.
 pub fn state_of_word(word: u32) -> PageState
     ensures { λ r. ⌜ r ≡ stateOfWord word ⌝ }
 {
     match word {
-        0xFFFFFFFF => PageState::Uninitialized,
-        0xFFFFFFFE => PageState::Active,
-        0xFFFFFFFC => PageState::Full,
-        0xFFFFFFF8 => PageState::Freeing,
-        0 => PageState::Invalid,
+        PAGE_STATE_UNINITIALIZED => PageState::Uninitialized,
+        PAGE_STATE_ACTIVE => PageState::Active,
+        PAGE_STATE_FULL => PageState::Full,
+        PAGE_STATE_FREEING => PageState::Freeing,
+        PAGE_STATE_INVALID => PageState::Invalid,
         _ => PageState::Corrupt,
     }
 }
 
-// The 32 bytes of a new header.
+// The 32 bytes of a new header (those that `ThinPage::initialize` writes): state Active, the sequence, version
+// 0xFE, 19 bytes 0xFF, and the CRC.
 pub fn header_bytes(sequence: u32) -> [u8; 32]
     ensures { λ r. ⌜ r ≡ headerBytes sequence ⌝ }
 {
     let mut header = [0xFFu8; 32];
-    let active = bytes::little_endian(0xFFFFFFFE);
+    let active = bytes::little_endian(PAGE_STATE_ACTIVE);
     bytes::put(&mut header, 0, &active);
     let number = bytes::little_endian(sequence);
     bytes::put(&mut header, 4, &number);

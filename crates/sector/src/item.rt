@@ -2,13 +2,13 @@
 ghost use mathlib.Core.Path.{_≡_};
 ghost use Rattle.flash.specs.Flash.{allOnes};
 ghost use Rattle.sector.specs.Item.{itemCrc, hashOf, loads, itemBytes, sizedData};
+use crate::CRC_START;
 use crate::bytes;
 use crate::types;
 
-// The value that every CRC of a page starts from.
-const CRC_START: u32 = 0xFFFFFFFF;
-
-// The CRC over bytes 0..4, key and data (`Item::calculate_crc32`).
+// The CRC that an item should carry (`Item::calculate_crc32`): over bytes 0..4, key and data.
+//
+// The Rust hands on three parts one after the other; here they lie side by side, for one call.
 pub fn item_crc(entry: [u8; 32]) -> u32
     ensures { λ r. ⌜ r ≡ itemCrc entry ⌝ }
 {
@@ -18,7 +18,8 @@ pub fn item_crc(entry: [u8; 32]) -> u32
     crc::crc32(CRC_START, &covered)
 }
 
-// The hash by which a page's list finds an item (`Item::calculate_hash_ref`): the low 24 bits of a CRC.
+// The hash by which a page's list finds an item (`Item::calculate_hash_ref`): the low 24 bits of the CRC of
+// namespace, key and chunk.
 pub fn calculate_hash(namespace: u8, key: [u8; 16], chunk: u8) -> u32
     ensures { λ r. ⌜ r ≡ hashOf namespace key chunk ⌝ }
 {
@@ -29,7 +30,6 @@ pub fn calculate_hash(namespace: u8, key: [u8; 16], chunk: u8) -> u32
     crc::crc32(CRC_START, &hashed) % 0x1000000
 }
 
-// All bytes are 0xFF.
 fn is_blank(entry: [u8; 32]) -> bool
     ensures { λ r. ⌜ r ≡ allOnes entry ⌝ }
 {
@@ -41,8 +41,8 @@ fn is_blank(entry: [u8; 32]) -> bool
     true
 }
 
-// Whether an entry loads (the checks of `ThinPage::load_item`): not all 0xFF, and its CRC is right once its
-// type byte is one of the thirteen.
+// Whether an entry loads (the checks of `ThinPage::load_item`): it is not all 0xFF, and its CRC is right, made
+// over a type byte that is one of the thirteen.
 pub fn loads(entry: [u8; 32]) -> bool
     ensures { λ r. ⌜ r ≡ loads entry ⌝ }
 {
@@ -55,7 +55,8 @@ pub fn loads(entry: [u8; 32]) -> bool
     crc == bytes::number_at(&entry, 4)
 }
 
-// The 32 bytes of a new item, its CRC among them.
+// The 32 bytes of a new item (those that `ThinPage::write_item` writes): namespace, type, span, chunk, CRC, key
+// and data.
 pub fn item_bytes(
     namespace: u8,
     kind: u8,
@@ -78,7 +79,8 @@ pub fn item_bytes(
     entry
 }
 
-// The data of Sized, Blob and BlobData (`ItemDataSized::new`): the payload's size and its CRC.
+// The data of Sized, Blob and BlobData (`ItemDataSized::new`): the payload's size in two bytes, 0xFFFF, the
+// payload's CRC. A size of more than two bytes loses the rest: no payload of a page has one.
 pub fn sized_data(payload: &[u8]) -> [u8; 8]
     ensures { λ r. ⌜ r ≡ sizedData (now (payload .entry)) ⌝ }
 {

@@ -6,6 +6,21 @@ pub mod item;
 pub mod map;
 pub mod types;
 
+pub const ENTRIES_PER_PAGE: usize = 126;
+
+// The value that every CRC of a page starts from.
+pub const CRC_START: u32 = 0xFFFFFFFF;
+
+pub const PAGE_STATE_UNINITIALIZED: u32 = 0xFFFFFFFF;
+
+pub const PAGE_STATE_ACTIVE: u32 = 0xFFFFFFFE;
+
+pub const PAGE_STATE_FULL: u32 = 0xFFFFFFFC;
+
+pub const PAGE_STATE_FREEING: u32 = 0xFFFFFFF8;
+
+pub const PAGE_STATE_INVALID: u32 = 0;
+
 // What a page is for; Corrupt also for any word that is none of these.
 pub enum PageState {
     Uninitialized,

@@ -1,13 +1,23 @@
 // The entry map: two bits an entry, entry i at bit 2 * (i mod 4) of map byte i / 4.
 ghost use mathlib.Core.Path.{_≡_};
-ghost use Prim.Native.Nat.{_+_, _*_, _<_, _≤_, _/_, _^_};
-ghost use Rattle.sector.specs.Map.{bitsOf, stateOfBits, entryBits, stateAt, entryState, statistics, markMask, markRange};
+ghost use Prim.Native.Nat.{_+_, _<_, _≤_};
+ghost use Rattle.sector.specs.Map.{bitsOf, stateOfBits, stateAt, entryState, statistics, markMask, markRange};
 use crate::Answer;
+use crate::ENTRIES_PER_PAGE;
 use crate::EntryMapState;
 use crate::StateAnswer;
 use crate::Statistics;
 
-pub const ENTRIES_PER_PAGE: usize = 126;
+fn bits_of(state: EntryMapState) -> u8
+    ensures { λ r. ⌜ r ≡ bitsOf state ⌝ }
+{
+    match state {
+        EntryMapState::Empty => 0b11,
+        EntryMapState::Written => 0b10,
+        EntryMapState::Erased => 0b00,
+        EntryMapState::Illegal => 0b01,
+    }
+}
 
 fn state_of_bits(bits: u8) -> EntryMapState
     requires { ⌜ bits < 4 ⌝ }
@@ -21,18 +31,7 @@ fn state_of_bits(bits: u8) -> EntryMapState
     }
 }
 
-fn bits_of(state: EntryMapState) -> u8
-    ensures { λ r. ⌜ r ≡ bitsOf state ⌝ }
-{
-    match state {
-        EntryMapState::Empty => 0b11,
-        EntryMapState::Written => 0b10,
-        EntryMapState::Erased => 0b00,
-        EntryMapState::Illegal => 0b01,
-    }
-}
-
-// The state that a map holds for an entry.
+// The state that a map holds for an entry of the page.
 pub fn state_at(map: [u8; 32], index: usize) -> EntryMapState
     requires { ⌜ index < 126 ⌝ }
     ensures { λ r. ⌜ r ≡ stateAt map index ⌝ }
@@ -43,8 +42,8 @@ pub fn state_at(map: [u8; 32], index: usize) -> EntryMapState
 
 // The state that a map holds for an entry (`ThinPage::get_entry_state`).
 //
-// An index over 125 is CorruptedData, which the Rust leaves to its callers: the last byte's top four bits
-// belong to no entry, and past index 127 there is no byte at all.
+// An index over 125 is CorruptedData. The Rust does not check it: at 126 and 127 it reads the last byte's top
+// four bits, which belong to no entry, and from 128 on there is no byte.
 pub fn get_entry_state(map: [u8; 32], index: usize) -> StateAnswer
     ensures { λ r. ⌜ r ≡ entryState map index ⌝ }
 {
@@ -61,7 +60,8 @@ pub fn get_entry_state(map: [u8; 32], index: usize) -> StateAnswer
     }
 }
 
-// How many entries are in each state (`ThinPage::get_entry_statistics`).
+// How many entries of the page are in each state (`ThinPage::get_entry_statistics`): the four counts add up to
+// 126, by the law `statistics-sum`.
 pub fn get_entry_statistics(map: [u8; 32]) -> Statistics
     ensures { λ r. ⌜ r ≡ statistics map ⌝ }
 {
@@ -69,7 +69,7 @@ pub fn get_entry_statistics(map: [u8; 32]) -> Statistics
     let mut written: u32 = 0;
     let mut erased: u32 = 0;
     let mut illegal: u32 = 0;
-    for index in 0..126usize {
+    for index in 0..ENTRIES_PER_PAGE {
         match state_at(map, index) {
             EntryMapState::Empty => empty += 1,
             EntryMapState::Written => written += 1,
@@ -93,7 +93,8 @@ fn mark_mask(state: EntryMapState, pair: usize) -> u8
     0xFF - ((0b11 - bits_of(state)) << (2 * pair))
 }
 
-// A map with a state's bits ANDed to those of `span` entries from `index` on (`set_entry_state_range`, of the record's map).
+// A map in which the bits of `span` entries from `index` on are ANDed with a state's: the part of
+// `ThinPage::set_entry_state_range` that changes the record's map. Programming it is the caller's.
 pub fn mark_range(map: [u8; 32], state: EntryMapState, index: usize, span: usize) -> [u8; 32]
     requires { ⌜ index + span ≤ 126 ⌝ }
     ensures { λ r. ⌜ r ≡ markRange state index span map ⌝ }

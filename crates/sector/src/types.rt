@@ -1,4 +1,4 @@
-// Item types: what a type byte decides.
+// Item types (raw.rs `ItemType`): what a type byte decides.
 ghost use mathlib.Core.Path.{_≡_};
 ghost use Rattle.sector.specs.Types.{byteOf, kindOf, typeByte, primitiveWidth};
 use crate::Answer;
@@ -6,80 +6,38 @@ use crate::ItemType;
 use crate::Kind;
 use crate::WidthAnswer;
 
-// All that a type byte decides (`ItemType::from_repr`, `get_primitive_bytes_width`).
+fn decided(named: ItemType, width: u8, payload: bool) -> Kind
+    ensures { λ r. ⌜ r ≡ record { named = named; width = width; payload = payload } ⌝ }
+{
+    Kind {
+        named,
+        width,
+        payload,
+    }
+}
+
+// All that a type byte decides (`ItemType::from_repr` and `get_primitive_bytes_width` in one): the type, a
+// primitive's width, and whether a payload lies behind the header. A byte that is none of the thirteen is Any.
 pub fn kind_of(byte: u8) -> Kind
     ensures { λ r. ⌜ r ≡ kindOf byte ⌝ }
 {
     match byte {
-        0x01 => Kind {
-            named: ItemType::U8,
-            width: 1,
-            payload: false,
-        },
-        0x11 => Kind {
-            named: ItemType::I8,
-            width: 1,
-            payload: false,
-        },
-        0x02 => Kind {
-            named: ItemType::U16,
-            width: 2,
-            payload: false,
-        },
-        0x12 => Kind {
-            named: ItemType::I16,
-            width: 2,
-            payload: false,
-        },
-        0x04 => Kind {
-            named: ItemType::U32,
-            width: 4,
-            payload: false,
-        },
-        0x14 => Kind {
-            named: ItemType::I32,
-            width: 4,
-            payload: false,
-        },
-        0x08 => Kind {
-            named: ItemType::U64,
-            width: 8,
-            payload: false,
-        },
-        0x18 => Kind {
-            named: ItemType::I64,
-            width: 8,
-            payload: false,
-        },
-        0x21 => Kind {
-            named: ItemType::Sized,
-            width: 0,
-            payload: true,
-        },
-        0x41 => Kind {
-            named: ItemType::Blob,
-            width: 0,
-            payload: true,
-        },
-        0x42 => Kind {
-            named: ItemType::BlobData,
-            width: 0,
-            payload: true,
-        },
-        0x48 => Kind {
-            named: ItemType::BlobIndex,
-            width: 0,
-            payload: false,
-        },
-        _ => Kind {
-            named: ItemType::Any,
-            width: 0,
-            payload: false,
-        },
+        0x01 => decided(ItemType::U8, 1, false),
+        0x11 => decided(ItemType::I8, 1, false),
+        0x02 => decided(ItemType::U16, 2, false),
+        0x12 => decided(ItemType::I16, 2, false),
+        0x04 => decided(ItemType::U32, 4, false),
+        0x14 => decided(ItemType::I32, 4, false),
+        0x08 => decided(ItemType::U64, 8, false),
+        0x18 => decided(ItemType::I64, 8, false),
+        0x21 => decided(ItemType::Sized, 0, true),
+        0x41 => decided(ItemType::Blob, 0, true),
+        0x42 => decided(ItemType::BlobData, 0, true),
+        0x48 => decided(ItemType::BlobIndex, 0, false),
+        _ => decided(ItemType::Any, 0, false),
     }
 }
 
-// The byte of a type.
 fn byte_of(named: ItemType) -> u8
     ensures { λ r. ⌜ r ≡ byteOf named ⌝ }
 {
@@ -109,6 +67,10 @@ pub fn type_byte(byte: u8) -> u8
     byte_of(named)
 }
 
+// A primitive's width: 1, 2, 4 or 8 (`ItemType::get_primitive_bytes_width`).
+//
+// Any other type is ItemTypeMismatch, with the byte as a load gives it: 0xFF for one that is none of the
+// thirteen. The Rust is handed the type and not its byte.
 pub fn get_primitive_bytes_width(byte: u8) -> WidthAnswer
     ensures { λ r. ⌜ r ≡ primitiveWidth byte ⌝ }
 {

@@ -1,0 +1,102 @@
+-- `load::load_item` meets its contract: it refuses what `entryChecks` refuses, then what does not load, and else has the item.
+use mathlib.Core.Path.{_≡_, refl, sym, _∙_}
+use mathlib.Core.Bool.{true}
+use mathlib.Core.List.{List}
+use Prim.Native.Nat.{ℕ}
+use lib.Dec.{eqb}
+use borrow.Author.Needs.{needs}
+use borrow.Author.Tests.{eq-eqb, ne-eqb, not-true, not-false}
+use Rattle.sector.specs.Answers.{accepted}
+use Rattle.load.specs.Load.{entryChecks, loadItem}
+use Rattle.load.proofs.Laws.{accepted-number, entry-fits, loadedOr-refused, loadedOr-accepted}
+use Rattle.load.proofs.load_item.Statement.{statement}
+use Rattle.load.proofs.load_item.Tie as tie
+
+module _ (c : tie.After-number-of) where
+  abbrev image : List ℕ
+  image = c .before .before .before .args .image .now
+
+  abbrev index : ℕ
+  index = c .before .before .before .args .index
+
+  -- the refusal's number tells whether the first checks accept
+  checked : accepted (entryChecks image index) ≡ eqb (c .number-of .result) 0
+  checked = accepted-number (entryChecks image index) _ _ refl (c .before .entry-refusal .ensures) (c .number-of .ensures)
+
+enters : (c : tie.Else1) → accepted (entryChecks (image (c .before)) (index (c .before))) ≡ true
+enters c = checked (c .before) ∙ eq-eqb _ _ (c .if1 .left)
+
+entry-refusal-requires : tie.Need-entry-refusal-requires
+entry-refusal-requires c κs = search needs
+
+number-of-requires : tie.Need-number-of-requires
+number-of-requires c κs = search needs
+
+refused-requires : tie.Need-refused-requires
+refused-requires c κs = search needs
+
+returns : tie.Need-returns
+unfolding loadItem
+returns c =
+    let at = c .before .before in
+    let refused = checked at ∙ ne-eqb _ _ (c .before .if1 .taken) in
+    rw (loadedOr-refused (entryChecks (image at) (index at)) _ _ refused, ← at .before .entry-refusal .ensures) (c .refused .ensures)
+
+entry-at-requires : tie.Need-entry-at-requires
+entry-at-requires c κs = entry-fits (image (c .before)) (index (c .before)) (enters c)
+
+loads-requires : tie.Need-loads-requires
+loads-requires c κs = search needs
+
+refused-requires-2 : tie.Need-refused-requires-2
+refused-requires-2 c κs = search needs
+
+returns-2 : tie.Need-returns-2
+unfolding loadItem
+returns-2 c =
+    let read = c .before .before .before in
+    let at = read .before .before in
+    rw (
+      loadedOr-accepted (entryChecks (image at) (index at)) _ _ (enters (read .before)),
+      ← read .entry-at .ensures,
+      sym (c .before .before .loads .ensures) ∙ not-true _ (c .before .if2 .taken),
+    )
+    (c .refused2 .ensures)
+
+array-read-type-byte : tie.Need-array-read-type-byte
+array-read-type-byte c = search needs
+
+type-byte-requires : tie.Need-type-byte-requires
+type-byte-requires c κs = search needs
+
+array-write-item : tie.Need-array-write-item
+array-write-item c = search needs
+
+returns-3 : tie.Need-returns-3
+unfolding loadItem
+returns-3 c =
+    let read = c .before .before .before in
+    let at = read .before .before in
+    rw (
+      loadedOr-accepted (entryChecks (image at) (index at)) _ _ (enters (read .before)),
+      ← read .entry-at .ensures,
+      sym (c .before .before .loads .ensures) ∙ not-false _ (c .before .if2 .left),
+      c .type-byte .ensures,
+    )
+
+pub load-item-spec : {M : Type 1} → statement M
+load-item-spec =
+    tie.close
+    (tie.spec
+    entry-refusal-requires
+    number-of-requires
+    refused-requires
+    returns
+    entry-at-requires
+    loads-requires
+    refused-requires-2
+    returns-2
+    array-read-type-byte
+    type-byte-requires
+    array-write-item
+    returns-3)
