@@ -1,7 +1,7 @@
 // Reading items out of a sector (page.rs): load, raw read, load data.
 use sector::Answer;
+use sector::ENTRIES_PER_PAGE;
 use sector::item;
-use sector::map::ENTRIES_PER_PAGE;
 use sector::types;
 ghost use mathlib.Core.Path.{_≡_};
 ghost use mathlib.Core.List.{_++_};

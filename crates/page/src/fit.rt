@@ -6,6 +6,7 @@ ghost use Rattle.flash.specs.Flash.{every, allOnes};
 ghost use Rattle.page.specs.Record.{placeFits, placeZero, isUninitialized, isBlank, blankFits, fitToUse};
 use crate::Listed;
 use crate::ThinPage;
+use sector::ENTRIES_PER_PAGE;
 use sector::PageState;
 use sector::map;
 
@@ -120,7 +121,7 @@ pub fn fit_to_use(page: ThinPage) -> bool
     ensures { λ r. ⌜ r ≡ fitToUse page ⌝ }
 {
     let next_free = page.used as usize + page.erased as usize;
-    if next_free > map::ENTRIES_PER_PAGE {
+    if next_free > ENTRIES_PER_PAGE {
         return false;
     }
     let len = page.len as usize;
