@@ -31,7 +31,7 @@ use Rattle.opening.proofs.Verdicts.{States, Entries, Whole}
 use Rattle.opening.proofs.Closed.{Closed, closed-append-item}
 use Rattle.opening.proofs.Cuts.{Marking, kept-unmarked, kept-marked}
 use Rattle.power_cut.proofs.Chunks.{chunks-append, length-chunks}
-use Rattle.power_cut.proofs.Standing.{Standing, entries-two, standing-map-bytes}
+use Rattle.power_cut.proofs.Standing.{Standing, entries-two, standing-map-bytes, front-bytes, front-size, regroup}
 
 -- ---- a write
 
@@ -189,31 +189,18 @@ module _ {image : List ℕ} {items : List Item} (p : Standing image items) {entr
 
   -- ---- what is kept
 
-  front-bytes : List ℕ
-  front-bytes = p .header ++ (p .map ++ p .used)
-
-  front-size : length front-bytes ≡ entryAddress start
-  unfolding front-bytes
-  front-size =
-      omega (arith, length-append (p .header) (p .map ++ p .used), length-append (p .map) (p .used), p .header-size, p .map-size, p .used-size)
-
-  regroup : (rest : List ℕ) → front-bytes ++ rest ≡ p .header ++ (p .map ++ (p .used ++ rest))
-  unfolding front-bytes
-  regroup rest =
-      append-assoc (p .header) (p .map ++ p .used) rest ∙ ap (λ (tail : List ℕ). p .header ++ tail) (append-assoc (p .map) (p .used) rest)
-
   -- before the first mark: the earlier items
   pub kept-before : (n : ℕ) → n ≤ length us → keptItems (run (take n plan) image) ≡ items
   unfolding itemPlan
   kept-before n h =
       let blanks : List ℕ = replicate (32 * p .spare) 0xFF in
       let done = take n us in
-      let image′ = run done (front-bytes ++ blanks) in
-      let within = subst (λ (from : ℕ). Within from (entryAddress (start + span)) done) (sym front-size) (within-take n (w .within)) in
+      let image′ = run done (front-bytes p ++ blanks) in
+      let within = subst (λ (from : ℕ). Within from (entryAddress (start + span)) done) (sym (front-size p)) (within-take n (w .within)) in
       ap (λ (plan : List Unit4). keptItems (run plan image)) (take-append-le n us (marks ++ full) h)
-      ∙ ap (λ (before : List ℕ). keptItems (run done before)) (p .split ∙ sym (regroup blanks))
-      ∙ ap keptItems (run-past front-bytes blanks within ∙ regroup (drop (length front-bytes) image′))
-      ∙ kept-any p (p .header) (drop (length front-bytes) image′) (p .header-size)
+      ∙ ap (λ (before : List ℕ). keptItems (run done before)) (p .split ∙ sym (regroup p blanks))
+      ∙ ap keptItems (run-past (front-bytes p) blanks within ∙ regroup p (drop (length (front-bytes p)) image′))
+      ∙ kept-any p (p .header) (drop (length (front-bytes p)) image′) (p .header-size)
 
   entries-laid : chunks (p .spare) (w .laid ++ behind) ≡ entry ∷ new ++ chunks left behind
   entries-laid =

@@ -5,3 +5,4 @@ pub mod Standing
 pub mod MapUnits
 pub mod OpenedPage
 pub mod Begun
+pub mod Laid

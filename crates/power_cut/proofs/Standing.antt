@@ -8,14 +8,14 @@ use mathlib.Core.List.{List, [], _∷_, _++_, append-assoc}
 use Prim.Native.Nat.{ℕ, zero, suc, _+_, _-_, _*_, _≤_}
 use native.Mathlib.Omega.{arith}
 use lib.Dec.{eqb}
-use lib.ListN.{length, take, drop, replicate, replicate-append-replicate, take-append-drop}
+use lib.ListN.{length, take, drop, replicate, replicate-append-replicate, length-append, take-append-drop}
 use lib.Seq.{take-at, drop-at}
 use borrow.Author.Tests.{eq-eqb}
 use Rattle.flash.specs.Flash.{Unit4, units, run, every, allOnes}
 use Rattle.flash.proofs.Laws.{Bytes, bytes-take, bytes-drop, all-ones-replicate}
 use Rattle.sector.specs.declared.EntryMapState.{EntryMapState}
 use Rattle.sector.specs.declared.EntryMapState.the-variants.{Empty, Written, Erased, Illegal}
-use Rattle.sector.specs.Layout.{entrySize, chunks, entriesOf, mapOf}
+use Rattle.sector.specs.Layout.{entryAddress, chunks, entriesOf, mapOf}
 use Rattle.sector.specs.Map.{unpack, pack, statesOf}
 use Rattle.sector.proofs.Marks.{mapOf-parts, entries-parts, pack-unpack}
 use Rattle.opening.specs.Reading.{Item, keptFrom, openedStates}
@@ -92,6 +92,26 @@ changed-none j (suc n) map = rw (same-bytes (mapUnit j map)) (changed-none (suc 
 module _ {image : List ℕ} {items : List Item} (p : Standing image items) where
   abbrev pub blanks : List ℕ
   blanks = replicate (32 * p .spare) 0xFF
+
+  -- what lies before the blank entries
+  abbrev pub front-bytes : List ℕ
+  front-bytes = p .header ++ (p .map ++ p .used)
+
+  pub front-size : length front-bytes ≡ entryAddress (length (p .front))
+  front-size =
+      omega (arith, length-append (p .header) (p .map ++ p .used), length-append (p .map) (p .used), p .header-size, p .map-size, p .used-size)
+
+  pub regroup : (rest : List ℕ) → front-bytes ++ rest ≡ p .header ++ (p .map ++ (p .used ++ rest))
+  regroup rest =
+      append-assoc (p .header) (p .map ++ p .used) rest ∙ ap (λ (tail : List ℕ). p .header ++ tail) (append-assoc (p .map) (p .used) rest)
+
+  -- the first n blank entries, and the others
+  pub blank-parts : (n : ℕ) → n ≤ p .spare → image ≡ front-bytes ++ (replicate (32 * n) 0xFF ++ replicate (32 * (p .spare - n)) 0xFF)
+  blank-parts n h =
+      let parts : 32 * p .spare ≡ 32 * n + 32 * (p .spare - n) = omega arith in
+      p .split ∙ sym (regroup blanks)
+      ∙ ap (λ (rest : List ℕ). front-bytes ++ rest)
+      (ap (λ (k : ℕ). replicate {A = ℕ} k 0xFF) parts ∙ sym (replicate-append-replicate {A = ℕ} (32 * n) (32 * (p .spare - n)) 0xFF))
 
   -- its map
   pub standing-map : mapOf image ≡ p .map
