@@ -1,2 +1,4 @@
 pub mod Laws
+pub mod Checks
+pub mod Plans
 pub mod Unique

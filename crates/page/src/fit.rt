@@ -57,7 +57,7 @@ fn behind_zero(list: [Listed; 126], len: usize) -> bool
     true
 }
 
-fn is_uninitialized(state: PageState) -> bool
+pub fn is_uninitialized(state: PageState) -> bool
     ensures { λ r. ⌜ r ≡ isUninitialized state ⌝ }
 {
     match state {

@@ -1,0 +1,64 @@
+-- Laws of plans: how many units a write has, and two parts of a plan done under one budget.
+-- Assumes nothing.
+use mathlib.Core.Path.{_≡_, refl, sym, ap, _∙_}
+use mathlib.Core.Bool.{Bool, true, false, cond}
+use mathlib.Core.List.{List, [], _∷_, _++_}
+use Prim.Native.Nat.{ℕ, _+_, _-_, _*_, _/_, _≤_}
+use native.Mathlib.Nat.{add-zero}
+use native.Mathlib.Omega.{arith}
+use lib.Dec.{eqb}
+use lib.ListN.{length, take, drop, length-append, length-take, length-drop}
+use lib.Seq.{drop-length}
+use Rattle.flash.specs.Flash.{Unit4, units, run, allOnes}
+use Rattle.flash.proofs.Laws.{length-units-whole, length-units-le, run-budget}
+use Rattle.sector.specs.declared.PageState.the-variants.{Full}
+use Rattle.sector.specs.Header.{stateBytes}
+use Rattle.sector.specs.Layout.{entriesPerPage, mapOffset, field}
+use Rattle.sector.specs.Map.{mapUnits}
+use Rattle.page.specs.Writing.{fullUnits}
+
+-- ---- how many units
+
+-- one unit for every sixteen entries that the range touches
+pub length-map-units : (i n : ℕ) (map : List ℕ) → length map ≡ 32 → 1 ≤ n → i + n ≤ 126 → length (mapUnits i n map) ≡ (i + n - 1) / 16 + 1 - i / 16
+unfolding mapUnits
+length-map-units i n map l one h =
+    let first : ℕ = i / 16 in
+    let last : ℕ = (i + n - 1) / 16 in
+    length-units-whole (mapOffset + 4 * first) (last + 1 - first) (field (4 * first) (4 * (last + 1 - first)) map)
+    (rw (length-take, length-drop, l) (omega arith))
+
+-- at most eight, whatever the map's length
+pub length-map-units-le : (i n : ℕ) (map : List ℕ) → i + n ≤ 126 → length (mapUnits i n map) ≤ 8
+unfolding mapUnits
+length-map-units-le i n map h =
+    let first : ℕ = i / 16 in
+    let size : ℕ = 4 * ((i + n - 1) / 16 + 1 - first) in
+    let bytes : List ℕ = field (4 * first) size map in
+    omega (arith, length-units-le (mapOffset + 4 * first) bytes, length-take size (drop (4 * first) map))
+
+-- the state word is one unit, where it is written
+pub length-full-units : (end : ℕ) → length (fullUnits end) ≡ cond (eqb end entriesPerPage) 1 0
+length-full-units end = go (eqb end entriesPerPage)
+  where
+    go : (full : Bool) → length (cond full (units 0 (stateBytes Full)) []) ≡ cond full 1 0
+    go true = length-units-whole 0 1 (stateBytes Full) refl
+    go false = refl
+
+-- an item's marks and the state word are at most nine units
+pub length-seal-le : (i n : ℕ) (map : List ℕ) → i + n ≤ 126 → length (mapUnits i n map ++ fullUnits (i + n)) ≤ 9
+length-seal-le i n map h = rw (length-append, length-full-units) (go (eqb (i + n) entriesPerPage))
+  where
+    go : (full : Bool) → length (mapUnits i n map) + cond full 1 0 ≤ 9
+    go true = omega (arith, length-map-units-le i n map h)
+    go false = omega (arith, length-map-units-le i n map h)
+
+-- ---- one budget
+
+-- the second part gets what the first leaves: the units of both, and the image after both
+pub run-both : (budget : ℕ) (us vs : List Unit4) (image : List ℕ) {between after : List ℕ} {first second left : ℕ}
+    → first ≡ length us → second ≡ length vs → left ≡ budget - first
+    → between ≡ run (take budget us) image → after ≡ run (take left vs) between
+    → (first + second ≡ length (us ++ vs)) × (after ≡ run (take budget (us ++ vs)) image)
+run-both budget us vs image eu ev el eb ea =
+    (omega (arith, length-append us vs), ea ∙ rw (el, eb, eu) (sym (run-budget budget us vs image)))
