@@ -4,11 +4,11 @@
 -- Assumes nothing.
 use mathlib.Core.Path.{_≡_, refl, sym, ap, ap₂, _∙_}
 use mathlib.Core.List.{List, [], _∷_, _++_, append-assoc}
-use Prim.Native.Nat.{ℕ, zero, suc, _+_, _*_, _≤_}
-use native.Mathlib.Nat.{suc-add, zero-add}
+use Prim.Native.Nat.{ℕ, zero, suc, _+_, _-_, _*_, _≤_, _<_}
+use native.Mathlib.Nat.{suc-add, zero-add, le-of-suc-le-suc, not-suc-le-zero, sub-zero}
 use native.Mathlib.Omega.{arith}
-use lib.ListN.{length, take, drop, length-drop, length-take, length-append}
-use lib.Seq.{take-append-le, drop-append-le, take-add, length-take-le, take-all}
+use lib.ListN.{length, take, drop, getD, length-drop, length-take, length-append}
+use lib.Seq.{take-append-le, drop-append-le, take-add, drop-drop, length-take-le, take-all}
 use Rattle.sector.specs.Layout.{entrySize, chunks}
 use Rattle.opening.specs.Reading.{joined}
 
@@ -36,3 +36,32 @@ unfolding chunks
 joined-chunks zero bytes = refl
 joined-chunks (suc n) bytes =
     rw (suc-entries n, take-add 32 (32 * n) bytes) (ap (λ (r : List ℕ). take 32 bytes ++ r) (joined-chunks n (drop 32 bytes)))
+
+next-offset : (i : ℕ) → 32 + 32 * i ≡ 32 * suc i
+next-offset i = omega arith
+
+pub getD-chunks : (n i : ℕ) (bytes : List ℕ) → i < n → getD (chunks n bytes) i [] ≡ take entrySize (drop (entrySize * i) bytes)
+unfolding chunks
+getD-chunks zero i bytes h = absurd (not-suc-le-zero h)
+getD-chunks (suc n) zero bytes h = refl
+getD-chunks (suc n) (suc i) bytes h =
+    getD-chunks n i (drop entrySize bytes) (le-of-suc-le-suc h)
+    ∙ ap (take entrySize) (drop-drop (entrySize * i) entrySize bytes ∙ ap (λ (offset : ℕ). drop offset bytes) (next-offset i))
+
+pub take-chunks : (k n : ℕ) (bytes : List ℕ) → k ≤ n → take k (chunks n bytes) ≡ chunks k bytes
+unfolding chunks
+take-chunks zero n bytes h = refl
+take-chunks (suc k) zero bytes h = absurd (not-suc-le-zero h)
+take-chunks (suc k) (suc n) bytes h =
+    ap (λ (rest : List (List ℕ)). take entrySize bytes ∷ rest) (take-chunks k n (drop entrySize bytes) (le-of-suc-le-suc h))
+
+pub drop-chunks : (i n : ℕ) (bytes : List ℕ) → i ≤ n → drop i (chunks n bytes) ≡ chunks (n - i) (drop (entrySize * i) bytes)
+unfolding chunks
+drop-chunks zero n bytes h = rw sub-zero
+drop-chunks (suc i) zero bytes h = absurd (not-suc-le-zero h)
+drop-chunks (suc i) (suc n) bytes h =
+    let less : n - i ≡ suc n - suc i = omega arith in
+    drop-chunks i n (drop entrySize bytes) (le-of-suc-le-suc h)
+    ∙ ap₂ (λ (m : ℕ) (rest : List ℕ). chunks m rest) less
+    (drop-drop (entrySize * i) entrySize bytes ∙ ap (λ (offset : ℕ). drop offset bytes) (next-offset i))
+

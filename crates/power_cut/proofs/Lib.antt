@@ -6,3 +6,4 @@ pub mod MapUnits
 pub mod OpenedPage
 pub mod Begun
 pub mod Laid
+pub mod KeptAt
