@@ -8,7 +8,7 @@ use Prim.Native.Nat.{ℕ, zero, suc, _+_, _-_, _*_, _≤_, _<_}
 use native.Mathlib.Nat.{suc-add, zero-add, le-of-suc-le-suc, not-suc-le-zero, sub-zero}
 use native.Mathlib.Omega.{arith}
 use lib.ListN.{length, take, drop, getD, length-drop, length-take, length-append}
-use lib.Seq.{take-append-le, drop-append-le, take-add, drop-drop, length-take-le, take-all}
+use lib.Seq.{take-append-le, drop-append-le, take-add, drop-drop, take-take, take-nil}
 use Rattle.sector.specs.Layout.{entrySize, chunks}
 use Rattle.opening.specs.Reading.{joined}
 
@@ -65,3 +65,17 @@ drop-chunks (suc i) (suc n) bytes h =
     ∙ ap₂ (λ (m : ℕ) (rest : List ℕ). chunks m rest) less
     (drop-drop (entrySize * i) entrySize bytes ∙ ap (λ (offset : ℕ). drop offset bytes) (next-offset i))
 
+pub drop-take : (m n : ℕ) (bytes : List ℕ) → drop m (take (m + n) bytes) ≡ take n (drop m bytes)
+drop-take zero n bytes = rw zero-add
+drop-take (suc m) n [] = rw suc-add (sym (take-nil n))
+drop-take (suc m) n (x ∷ bytes) = rw suc-add (drop-take m n bytes)
+
+-- only the bytes of the entries matter
+pub chunks-take : (n : ℕ) (bytes : List ℕ) → chunks n (take (32 * n) bytes) ≡ chunks n bytes
+unfolding chunks
+chunks-take zero bytes = refl
+chunks-take (suc n) bytes =
+    rw (suc-entries n)
+    (ap₂ (λ (first : List ℕ) (rest : List (List ℕ)). first ∷ rest)
+    (take-take 32 (32 + 32 * n) bytes (omega arith))
+    (ap (chunks n) (drop-take 32 (32 * n) bytes) ∙ chunks-take n (drop 32 bytes)))

@@ -9,26 +9,30 @@ use Prim.Native.Nat.{ℕ, zero, suc, _+_, _-_, _*_, _/_, _%_, _≤_, _<_}
 use native.Mathlib.Nat.{sub-self}
 use native.Mathlib.Omega.{arith}
 use lib.Dec.{ltb}
-use lib.ListN.{length, take, drop, replicate, length-append, length-replicate}
-use lib.Seq.{take-all, take-at, drop-at}
+use lib.ListN.{length, take, drop, replicate, length-append, length-replicate, length-drop}
+use lib.Seq.{take-all, take-at, drop-at, drop-drop, length-take-le}
 use borrow.Author.Tests.{ltb-true}
 use mathlib.Core.Bool.{and-eq-true-iff}
 use Rattle.flash.specs.Flash.{Unit4, units, run, every}
-use Rattle.flash.proofs.Laws.{Bytes, bytes-nil, bytes-cons, bytes-append, bytes-ones, bytes-run, run-append, run-units-erased, Within, within-units, within-wider, within-append}
+use Rattle.flash.proofs.Laws.{Bytes, bytes-nil, bytes-cons, bytes-append, bytes-ones, bytes-take, bytes-drop, bytes-run, run-append, run-units-erased, Within, within-units, within-wider, within-append}
 use Rattle.crc.specs.Crc.{crc32}
 use Rattle.sector.specs.Item.{crcStart, itemBytes, sizedData}
-use Rattle.sector.specs.Layout.{entryAddress, chunks, littleEndian}
+use Rattle.sector.specs.Layout.{entryAddress, entryAt, chunks, entriesOf, mapOf, spanOf, littleEndian}
+use Rattle.sector.specs.Map.{statesOf}
 use Rattle.sector.specs.Types.{itemType, hasPayload}
 use Rattle.append.specs.declared.Single.{Single}
 use Rattle.append.specs.declared.Variable.{Variable}
 use Rattle.append.specs.Append.{isSingle, singleBytes, spanFor, variableHeader}
+use Rattle.copy.specs.Copy.{copiedBytes}
+use Rattle.opening.specs.Opening.{keptItems}
 use Rattle.opening.specs.Reading.{Item}
 use Rattle.opening.proofs.Verdicts.{Entries, Whole}
-use Rattle.power_cut.specs.History.{allBytes, SingleRequest, VariableRequest, payloadEntries}
+use Rattle.power_cut.specs.History.{allBytes, SingleRequest, VariableRequest, KeptIn, payloadEntries}
 use Rattle.power_cut.proofs.Standing.{Standing, front-bytes, front-size, regroup, blank-parts}
-use Rattle.power_cut.proofs.Chunks.{length-chunks}
+use Rattle.power_cut.proofs.Chunks.{length-chunks, take-chunks, drop-chunks, chunks-take}
 use Rattle.power_cut.proofs.NewItem.{single-whole, variable-whole}
 use Rattle.power_cut.proofs.Begun.{Lays}
+use Rattle.power_cut.proofs.KeptAt.{KeptAt, kept-at, header-span}
 
 -- ---- bytes
 
@@ -190,3 +194,56 @@ module _ {image : List ℕ} {items : List Item} (p : Standing image items) where
               ∙ regroup p (laid ++ behind)
               ∙ ap (λ (n : ℕ). p .header ++ (p .map ++ (p .used ++ (laid ++ replicate {A = ℕ} (32 * (p .spare - n)) 0xFF)))) (omega (arith, new-length));
         }
+
+  -- ---- a copy of an item that the source's reading keeps
+
+  module _ (source : List ℕ) (index : ℕ) (entries : Entries) (kept : KeptIn source index entries) where
+    pub place : KeptAt 0 index entries (entriesOf source)
+    unfolding keptItems
+    place = kept-at zero zero (statesOf (mapOf source)) (entriesOf source) (kept .kept)
+
+    abbrev bytes-there : List ℕ
+    bytes-there = drop (entryAddress index) source
+
+    abbrev count : ℕ
+    count = suc (length (place .new))
+
+    offset-is : place .offset ≡ index
+    offset-is = omega (arith, place .at)
+
+    inside : index + count ≤ 126
+    inside = omega (arith, place .fits, offset-is, length-chunks 126 (drop 64 source))
+
+    there-is : chunks count bytes-there ≡ place .entry ∷ place .new
+    there-is =
+        let bytes = drop 64 source in
+        ap (chunks count) (sym (drop-drop (32 * index) 64 source))
+        ∙ sym (take-chunks count (126 - index) (drop (32 * index) bytes) (omega (arith, inside)))
+        ∙ ap (take count) (sym (drop-chunks index 126 bytes (omega (arith, inside))))
+        ∙ ap (λ (offset : ℕ). take count (drop offset (chunks 126 bytes))) (sym offset-is)
+        ∙ place .there
+
+    entry-is : entryAt source index ≡ place .entry
+    unfolding chunks
+    entry-is =
+        let e : take 32 bytes-there ∷ chunks (length (place .new)) (drop 32 bytes-there) ≡ place .entry ∷ place .new = there-is in
+        cc
+
+    pub copied-span : spanOf (entryAt source index) ≡ count
+    copied-span = ap spanOf entry-is ∙ header-span (place .entry) (length (place .new)) (place .whole .header) ∙ ap suc (place .whole .span)
+
+    copied-is : copiedBytes source index ≡ take (32 * count) bytes-there
+    copied-is = ap (λ (n : ℕ). take (32 * n) bytes-there) copied-span
+
+    source-size : length bytes-there ≡ 4096 - entryAddress index
+    source-size = length-drop (entryAddress index) source ∙ ap (λ (n : ℕ). n - entryAddress index) (kept .sector .size)
+
+    pub lays-copy : spanOf (entryAt source index) ≤ p .spare
+        → Lays p (place .entry) (place .new) (units (entryAddress (length (p .front))) (copiedBytes source index))
+    lays-copy room =
+        lays-whole (place .entry) (place .new) (copiedBytes source index)
+        (ap length copied-is ∙ length-take-le (32 * count) bytes-there (omega (arith, source-size, inside)))
+        (ap (chunks count) copied-is ∙ chunks-take count bytes-there ∙ there-is)
+        (place .whole)
+        (omega (arith, copied-span))
+        (bytes-take (32 * spanOf (entryAt source index)) (bytes-drop (entryAddress index) (bytes-of source (kept .sector .bytes))))

@@ -5,5 +5,5 @@ pub mod Standing
 pub mod MapUnits
 pub mod OpenedPage
 pub mod Begun
-pub mod Laid
 pub mod KeptAt
+pub mod Laid
