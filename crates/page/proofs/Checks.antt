@@ -5,7 +5,7 @@ use mathlib.Core.Bool.{Bool, true, false, not, cond, false≢true, and-eq-true-i
 use mathlib.Core.List.{List, [], _∷_, _++_}
 use Prim.Native.Nat.{ℕ, _+_, _≤_, _<_}
 use native.Mathlib.Omega.{arith}
-use lib.Dec.{eqb, ltb}
+use lib.Dec.{eqb}
 use lib.ListN.{length, take}
 use borrow.Author.Tests.{eqb-true, ltb-false, lt-ltb, le-ltb, not-false}
 use Rattle.flash.specs.Flash.{Unit4, every, run}

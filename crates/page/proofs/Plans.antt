@@ -1,15 +1,13 @@
 -- Laws of plans: how many units a write has, and two parts of a plan done under one budget.
 -- Assumes nothing.
-use mathlib.Core.Path.{_≡_, refl, sym, ap, _∙_}
+use mathlib.Core.Path.{_≡_, refl, sym, _∙_}
 use mathlib.Core.Bool.{Bool, true, false, cond}
-use mathlib.Core.List.{List, [], _∷_, _++_}
+use mathlib.Core.List.{List, [], _++_}
 use Prim.Native.Nat.{ℕ, _+_, _-_, _*_, _/_, _≤_}
-use native.Mathlib.Nat.{add-zero}
 use native.Mathlib.Omega.{arith}
 use lib.Dec.{eqb}
 use lib.ListN.{length, take, drop, length-append, length-take, length-drop}
-use lib.Seq.{drop-length}
-use Rattle.flash.specs.Flash.{Unit4, units, run, allOnes}
+use Rattle.flash.specs.Flash.{Unit4, units, run}
 use Rattle.flash.proofs.Laws.{length-units-whole, length-units-le, run-budget}
 use Rattle.sector.specs.declared.PageState.the-variants.{Full}
 use Rattle.sector.specs.Header.{stateBytes}

@@ -1,6 +1,5 @@
 -- `write::append_refusal` meets its contract: the length is the first check, and the record's checks stand behind it.
 -- Assumes nothing.
-use mathlib.Core.Path.{_∙_}
 use borrow.Author.Needs.{needs}
 use borrow.Author.Tests.{eq-eqb, ne-eqb}
 use Rattle.page.proofs.write.append_refusal.Statement.{statement}
