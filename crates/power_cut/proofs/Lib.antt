@@ -7,3 +7,4 @@ pub mod OpenedPage
 pub mod Begun
 pub mod KeptAt
 pub mod Laid
+pub mod AtHand
