@@ -1,4 +1,5 @@
-//! Links the archive of the page calls, and tells the tests by `cfg(archive)` whether it is there.
+//! Links the archive of the page calls. `cfg(archive)` says in this crate whether it is there, and
+//! DEP_NVS_PAGE_LINKED in the build script of a crate above.
 //!
 //! NVS_PAGE_LIB names the archive, from the repository's root where it is no absolute path. Without it the archive is
 //! target/staticlib/libboundary.a, where `rt staticlib boundary` puts it.
@@ -23,4 +24,5 @@ fn main() {
     println!("cargo:rustc-link-search=native={}", folder.display());
     println!("cargo:rustc-link-lib=static:+verbatim={file}");
     println!("cargo:rustc-cfg=archive");
+    println!("cargo:linked=yes");
 }

@@ -204,6 +204,10 @@ impl Outcome {
         if case.call.takes_record() {
             self.set_record(&case.record);
         }
+        if case.call == Call::Open {
+            // Opening reads nothing of the buffer for its record.
+            self.record.resize(RECORD, 0xA5);
+        }
         if case.call == Call::LoadData {
             self.output.extend_from_slice(&case.output);
         }

@@ -56,6 +56,8 @@ pub struct Sides {
     pub oracle: Oracle,
     pub ours: Ours,
     pub expected: Outcome,
+    /// What the first units of the Rust's log leave.
+    pub at_stop: Outcome,
     pub got: Outcome,
 }
 
@@ -72,20 +74,19 @@ impl Sides {
         let total = self.oracle.units().len();
         let first = if stops == Stops::Every { 0 } else { total.saturating_sub(1) };
         let last = if stops == Stops::Every { total + 1 } else { total };
-        let mut at_stop = Outcome::default();
-        at_stop.before(case);
-        at_stop.returned = STOPPED;
+        self.at_stop.before(case);
+        self.at_stop.returned = STOPPED;
         for n in 0..=last {
             if n >= first {
                 self.ours.run(case, n as u64, &mut self.got);
                 *made += 1;
-                let expected = if n < total { &at_stop } else { &self.expected };
+                let expected = if n < total { &self.at_stop } else { &self.expected };
                 if let Some(part) = differing_part(expected, &self.got) {
                     return Some(Difference { part, stop: n as u64 });
                 }
             }
             if let Some(unit) = self.oracle.units().get(n) {
-                unit.program(&mut at_stop.image);
+                unit.program(&mut self.at_stop.image);
             }
         }
         None
@@ -117,6 +118,13 @@ pub struct Runner {
 }
 
 impl Runner {
+    pub fn start_group(&mut self, name: &'static str, recorded: (u64, u64)) {
+        self.report.group = name;
+        if let Some(recorder) = &mut self.recorder {
+            recorder.start_group(recorded);
+        }
+    }
+
     /// Whether the case lies in the domain and the Rust's call was done.
     pub fn check(&mut self, case: &Case, stops: Stops) -> bool {
         if !in_domain(case) {

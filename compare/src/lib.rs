@@ -12,6 +12,7 @@ pub mod case;
 pub mod flash;
 pub mod oracle;
 pub mod record;
+pub mod timed;
 
 use nvs::Nvs;
 use raw::FLASH_SECTOR_SIZE;

@@ -10,8 +10,8 @@ use crate::case::*;
 use crate::error::Error;
 use crate::flash::{Flash, SECTOR, Unit};
 use crate::page::{ItemHashListEntry, LoadPageResult, ThinPage, ThinPageHeader, ThinPageState};
-use crate::platform::software_crc32;
-use crate::raw::{ITEM_SIZE, Item, ItemData, ItemType, PageHeaderRaw, RawItem, sanitize_item_type};
+use crate::platform::{Platform, software_crc32};
+use crate::raw::{ITEM_SIZE, Item, ItemData, ItemType, PageHeader, PageHeaderRaw, RawItem, sanitize_item_type};
 use crate::record::{self, Listed, Record};
 use crate::u24::u24;
 
@@ -64,7 +64,7 @@ impl Oracle {
         match case.call {
             Call::Crc32 => outcome.returned = software_crc32(case.number, &case.data),
             Call::ItemCrc => outcome.returned = item_of(&case.data).calculate_crc32(software_crc32),
-            Call::HeaderCrc => outcome.returned = header_crc(&case.data),
+            Call::HeaderCrc => outcome.returned = header_of(&case.data).calculate_crc32(software_crc32),
             Call::Hash => outcome.returned = hash(case),
             Call::TypeByte => outcome.returned = type_of(case.type_byte) as u8 as u32,
             Call::Width => width(case, outcome),
@@ -75,7 +75,6 @@ impl Oracle {
             Call::Statistics => statistics(case, outcome),
             Call::HashBound => hash_bound(case, outcome),
             Call::Open => self.scan(outcome),
-            Call::Purge => self.purge(case, outcome),
             _ => self.write(case, outcome),
         }
     }
@@ -112,38 +111,15 @@ impl Oracle {
         }
     }
 
-    fn purge(&mut self, case: &Case, outcome: &mut Outcome) {
-        // A number past what the Rust's parameter holds is the largest that it does hold.
-        let (index, span) = (case.index.min(255) as u8, case.span.min(255) as u8);
-        let result = page_of(&case.record, 0).purge_entries(&mut self.flash, index, span);
-        refused(result, outcome);
-    }
-
-    /// The calls that take a record and hand it back.
     fn write(&mut self, case: &Case, outcome: &mut Outcome) {
         let mut page = page_of(&case.record, 0);
-        let flash = &mut self.flash;
-        let chunk = Some(case.chunk).filter(|&chunk| chunk != 0xFF);
-        let (key, type_) = (Key(case.key), type_of(case.type_byte));
-        let (index, span) = (case.index as u8, case.span as u8);
-        let result = match case.call {
-            Call::Initialise => page.initialize(flash, case.number),
-            Call::MarkFull => page.mark_as_full(flash),
-            Call::AppendSingle => {
-                page.write_item(flash, case.namespace, key, type_, chunk, span, ItemData { raw: case.single })
-            }
-            Call::AppendNamespace => page.write_namespace(flash, key, case.value),
-            Call::AppendVariable => {
-                page.write_variable_sized_item(flash, case.namespace, key, type_, chunk, &case.data)
-            }
-            Call::CopyIn => copy_in(&mut page, flash, index),
-            Call::Erase => page.erase_item(flash, index, span),
-            Call::PurgeNamespace => page.purge_erased_for_namespace(flash, case.namespace),
-            call => unreachable!("{call:?} takes no record"),
-        };
-        refused(result, outcome);
-        self.keep(&page);
-        outcome.set_record(&self.record);
+        if let Err(error) = write(&mut page, &mut self.flash, case) {
+            refuse(error, outcome);
+        }
+        if case.call.takes_record() {
+            self.keep(&page);
+            outcome.set_record(&self.record);
+        }
     }
 
     /// The Rust's own scan of a sector, which follows other rules than 01's opening. A page that it hands out as empty
@@ -174,7 +150,7 @@ impl Oracle {
 }
 
 /// A partition of one sector, as `Nvs::new` makes it before it scans.
-pub(crate) fn partition<T: crate::platform::Platform>(hal: T) -> Nvs<T> {
+pub(crate) fn partition<T: Platform>(hal: T) -> Nvs<T> {
     Nvs {
         hal,
         base_address: 0,
@@ -205,21 +181,31 @@ pub(crate) fn page_of(record: &Record, address: usize) -> ThinPage {
     page
 }
 
+/// The calls that write.
+pub(crate) fn write<T: Platform>(page: &mut ThinPage, flash: &mut T, case: &Case) -> Result<(), Error> {
+    let chunk = Some(case.chunk).filter(|&chunk| chunk != 0xFF);
+    let (namespace, key, type_) = (case.namespace, Key(case.key), type_of(case.type_byte));
+    let (index, span) = (case.index as u8, case.span as u8);
+    match case.call {
+        Call::Initialise => page.initialize(flash, case.number),
+        Call::MarkFull => page.mark_as_full(flash),
+        Call::AppendSingle => page.write_item(flash, namespace, key, type_, chunk, span, ItemData { raw: case.single }),
+        Call::AppendNamespace => page.write_namespace(flash, key, case.value),
+        Call::AppendVariable => page.write_variable_sized_item(flash, namespace, key, type_, chunk, &case.data),
+        Call::CopyIn => copy_in(page, flash, index),
+        Call::Erase => page.erase_item(flash, index, span),
+        // A number past what the Rust's parameter holds is the largest that it does hold.
+        Call::Purge => page.purge_entries(flash, case.index.min(255) as u8, case.span.min(255) as u8),
+        Call::PurgeNamespace => page.purge_erased_for_namespace(flash, namespace),
+        call => unreachable!("{call:?} does not write"),
+    }
+}
+
 /// `load_item` of the source, then `copy_item_from`, as the Rust's own caller goes about it.
-pub(crate) fn copy_in<T: crate::platform::Platform>(
-    page: &mut ThinPage,
-    flash: &mut T,
-    index: u8,
-) -> Result<(), Error> {
+fn copy_in<T: Platform>(page: &mut ThinPage, flash: &mut T, index: u8) -> Result<(), Error> {
     let source = ThinPage::uninitialized(SOURCE);
     let item = source.load_item(flash, index)?;
     page.copy_item_from(flash, &source, index, &item)
-}
-
-fn refused(result: Result<(), Error>, outcome: &mut Outcome) {
-    if let Err(error) = result {
-        refuse(error, outcome);
-    }
 }
 
 /// The number of 01 that an error of the Rust is.
@@ -269,11 +255,10 @@ pub(crate) fn item_of(data: &[u8]) -> Item {
     Item::from_raw(data.try_into().expect("an item is 32 bytes"))
 }
 
-fn header_crc(data: &[u8]) -> u32 {
+pub(crate) fn header_of(data: &[u8]) -> PageHeader {
     let raw = data.try_into().expect("a header is 32 bytes");
     // Safety: a header is plain bytes and numbers.
-    let header = unsafe { PageHeaderRaw { raw }.page_header };
-    header.calculate_crc32(software_crc32)
+    unsafe { PageHeaderRaw { raw }.page_header }
 }
 
 fn bytes_of(item: Item) -> [u8; ITEM_SIZE] {

@@ -40,13 +40,11 @@ impl Ours {
     pub fn run(&self, case: &Case, stop: u64, outcome: &mut Outcome) {
         outcome.before(case);
         let stop = if self.fault == Some(Fault::BlankTailCounted) { one_unit_late(case, stop) } else { stop };
-        outcome.returned = if case.call.writes_image() {
-            write(case, stop, outcome)
-        } else if case.call.has_answer() {
-            read(case, outcome)
-        } else {
-            number(case)
-        };
+        // What the buffer held before has to be gone.
+        if case.call.has_answer() {
+            outcome.answer.fill(0xA5);
+        }
+        call(case, stop, outcome);
         match self.fault {
             Some(Fault::WrongMark) => wrong_mark(case, outcome),
             Some(Fault::FullBeforeTooLong) if outcome.returned == VALUE_TOO_LONG => outcome.returned = PAGE_FULL,
@@ -55,12 +53,24 @@ impl Ours {
     }
 }
 
+/// The call alone, on what stands in the outcome's buffers.
+fn call(case: &Case, stop: u64, outcome: &mut Outcome) {
+    outcome.returned = if case.call.writes_image() {
+        write(case, stop, outcome)
+    } else if case.call.has_answer() {
+        read(case.call, case, outcome)
+    } else {
+        number(case.call, case)
+    };
+}
+
 /// The calls that hand back a number alone.
-fn number(case: &Case) -> u32 {
+#[inline(always)]
+pub fn number(call: Call, case: &Case) -> u32 {
     let data = &case.data;
     // Safety: each pointer goes with the length of its slice.
     unsafe {
-        match case.call {
+        match call {
             Call::Crc32 => sys::nvs_crc32(case.number, data.as_ptr(), data.len()),
             Call::ItemCrc => sys::nvs_item_crc(data.as_ptr(), data.len()),
             Call::HeaderCrc => sys::nvs_header_crc(data.as_ptr(), data.len()),
@@ -72,17 +82,16 @@ fn number(case: &Case) -> u32 {
 }
 
 /// The calls with an answer.
-fn read(case: &Case, outcome: &mut Outcome) -> u32 {
+#[inline(always)]
+pub fn read(call: Call, case: &Case, outcome: &mut Outcome) -> u32 {
     let (image, image_length) = (case.image.as_ptr(), case.image.len());
     let (map, map_length) = (case.record.map.as_ptr(), case.record.map.len());
     let entries = &case.image[64..];
-    // What the buffer held before has to be gone.
-    outcome.answer.fill(0xA5);
     let (answer, length) = (outcome.answer.as_mut_ptr(), outcome.answer.len());
     let (output, output_length) = (outcome.output.as_mut_ptr(), outcome.output.len());
     // Safety: each pointer goes with the length of its slice, and answer and output are buffers of their own.
     unsafe {
-        match case.call {
+        match call {
             Call::Width => sys::nvs_width(case.type_byte, answer, length),
             Call::Load => sys::nvs_load(image, image_length, case.index, answer, length),
             Call::RawRead => sys::nvs_raw_read(image, image_length, case.index, answer, length),
@@ -98,7 +107,27 @@ fn read(case: &Case, outcome: &mut Outcome) -> u32 {
 }
 
 /// The calls that may write an image.
-fn write(case: &Case, stop: u64, outcome: &mut Outcome) -> u32 {
+pub fn write(case: &Case, stop: u64, outcome: &mut Outcome) -> u32 {
+    let (image, size) = (outcome.image.as_mut_ptr(), outcome.image.len());
+    let (record, length) = (outcome.record.as_mut_ptr(), outcome.record.len());
+    let (source, source_length) = (case.source.as_ptr(), case.source.len());
+    // Safety: each pointer goes with the length of its slice, and image and record are buffers of their own.
+    unsafe {
+        match case.call {
+            Call::Open => sys::nvs_open(image, size, record, length),
+            Call::Initialise => sys::nvs_initialise(image, size, record, length, case.number, stop),
+            Call::MarkFull => sys::nvs_mark_full(image, size, record, length),
+            Call::CopyIn => sys::nvs_copy_in(image, size, record, length, source, source_length, case.index, stop),
+            Call::Erase => sys::nvs_erase(image, size, record, length, case.index, case.span),
+            Call::Purge => sys::nvs_purge(image, size, case.index, case.span),
+            Call::PurgeNamespace => sys::nvs_purge_namespace(image, size, record, length, case.namespace),
+            _ => append(case, stop, outcome),
+        }
+    }
+}
+
+#[rustfmt::skip]
+fn append(case: &Case, stop: u64, outcome: &mut Outcome) -> u32 {
     let (image, size) = (outcome.image.as_mut_ptr(), outcome.image.len());
     let (record, length) = (outcome.record.as_mut_ptr(), outcome.record.len());
     let (key, key_length) = (case.key.as_ptr(), case.key.len());
@@ -108,49 +137,17 @@ fn write(case: &Case, stop: u64, outcome: &mut Outcome) -> u32 {
     // Safety: each pointer goes with the length of its slice, and image and record are buffers of their own.
     unsafe {
         match case.call {
-            Call::Open => sys::nvs_open(image, size, record, length),
-            Call::Initialise => sys::nvs_initialise(image, size, record, length, case.number, stop),
-            Call::MarkFull => sys::nvs_mark_full(image, size, record, length),
             Call::AppendSingle => sys::nvs_append_single(
-                image,
-                size,
-                record,
-                length,
-                namespace,
-                type_byte,
-                case.span,
-                chunk,
-                key,
-                key_length,
-                single,
-                single_length,
-                stop,
+                image, size, record, length, namespace, type_byte, case.span, chunk, key, key_length,
+                single, single_length, stop,
             ),
-            Call::AppendNamespace => {
-                sys::nvs_append_namespace(image, size, record, length, key, key_length, case.value, stop)
-            }
+            Call::AppendNamespace => sys::nvs_append_namespace(
+                image, size, record, length, key, key_length, case.value, stop,
+            ),
             Call::AppendVariable => sys::nvs_append_variable(
-                image,
-                size,
-                record,
-                length,
-                namespace,
-                type_byte,
-                chunk,
-                key,
-                key_length,
-                data,
-                data_length,
-                stop,
+                image, size, record, length, namespace, type_byte, chunk, key, key_length, data, data_length, stop,
             ),
-            Call::CopyIn => {
-                let (source, source_length) = (case.source.as_ptr(), case.source.len());
-                sys::nvs_copy_in(image, size, record, length, source, source_length, case.index, stop)
-            }
-            Call::Erase => sys::nvs_erase(image, size, record, length, case.index, case.span),
-            Call::Purge => sys::nvs_purge(image, size, case.index, case.span),
-            Call::PurgeNamespace => sys::nvs_purge_namespace(image, size, record, length, namespace),
-            call => unreachable!("{call:?} writes no image"),
+            call => unreachable!("{call:?} does not append"),
         }
     }
 }

@@ -255,7 +255,7 @@ impl Writer {
         }
     }
 
-    fn step(&mut self, case: &mut Case) {
+    pub fn step(&mut self, case: &mut Case) {
         self.oracle.run(case, &mut self.outcome);
         assert_eq!(self.outcome.returned, DONE, "{:?} of a page being made", case.call);
         case.image.copy_from_slice(&self.outcome.image);

@@ -138,6 +138,8 @@ impl Report {
     }
 }
 
+pub const STATES: [&str; 6] = ["Uninitialized", "Active", "Full", "Freeing", "Corrupt", "Invalid"];
+
 /// A number with commas.
 pub fn grouped(number: u64) -> String {
     let digits = number.to_string();
@@ -157,53 +159,100 @@ pub fn hex(bytes: &[u8]) -> String {
 
 /// The inputs that the call reads; of a sector only the lines of 32 bytes that are not all 0xFF.
 pub fn print_case(case: &Case) {
-    let Case { call, namespace, type_byte, chunk, value, number, index, span, .. } = case;
-    println!("  namespace {namespace}, type {type_byte:#04x}, chunk {chunk}, value {value}, number {number:#x}");
-    println!("  index {index}, span {span}, key {}, single {}", hex(&case.key), hex(&case.single));
-    println!("  data, {} bytes: {}", case.data.len(), hex(&case.data));
-    if *call == Call::LoadData {
-        println!("  output: {} bytes", case.output.len());
-    }
-    if call.takes_record() || call.takes_map() {
-        println!("  record: {:?}", case.record);
+    use Call::*;
+    let call = case.call;
+    let fields = [
+        ("start", matches!(call, Crc32), format!("{:#x}", case.number)),
+        ("sequence", matches!(call, Initialise), format!("{:#x}", case.number)),
+        ("byte", matches!(call, TypeByte | Width), format!("{:#04x}", case.type_byte)),
+        ("type", matches!(call, AppendSingle | AppendVariable), format!("{:#04x}", case.type_byte)),
+        ("namespace", takes_namespace(call), case.namespace.to_string()),
+        ("chunk", matches!(call, Hash | AppendSingle | AppendVariable), case.chunk.to_string()),
+        ("key", takes_key(call), hex(&case.key)),
+        ("value", matches!(call, AppendNamespace), case.value.to_string()),
+        ("data", matches!(call, AppendSingle), hex(&case.single)),
+        ("bytes", matches!(call, Crc32 | ItemCrc | HeaderCrc | AppendVariable), bytes(&case.data)),
+        ("index", takes_index(call), case.index.to_string()),
+        ("span", matches!(call, AppendSingle | Erase | Purge), case.span.to_string()),
+        ("output", matches!(call, LoadData), format!("{} bytes", case.output.len())),
+        ("map", call.takes_map(), hex(&case.record.map)),
+        ("record", call.takes_record(), record(&case.record)),
+    ];
+    for (name, _, text) in fields.iter().filter(|(_, read, _)| *read) {
+        println!("  {name:<10} {text}");
     }
     if call.takes_image() {
         print_sector("image", &case.image);
     }
-    if *call == Call::CopyIn {
+    if call == CopyIn {
         print_sector("source", &case.source);
     }
 }
 
+fn takes_namespace(call: Call) -> bool {
+    matches!(call, Call::Hash | Call::AppendSingle | Call::AppendVariable | Call::PurgeNamespace)
+}
+
+fn takes_key(call: Call) -> bool {
+    matches!(call, Call::Hash | Call::AppendSingle | Call::AppendVariable | Call::AppendNamespace)
+}
+
+fn takes_index(call: Call) -> bool {
+    use Call::*;
+    matches!(call, Load | RawRead | LoadData | EntryState | CopyIn | Erase | Purge)
+}
+
+/// Many bytes of one value are counted.
+fn bytes(bytes: &[u8]) -> String {
+    match bytes {
+        [first, rest @ ..] if rest.len() > 15 && rest.iter().all(|byte| byte == first) => {
+            format!("{} times {first:02x}", bytes.len())
+        }
+        _ => format!("{}: {}", bytes.len(), hex(bytes)),
+    }
+}
+
+fn record(record: &Record) -> String {
+    let Record { sequence, version, header_crc, used, erased, map, list, .. } = record;
+    let state = STATES[record.state as usize];
+    let list: Vec<String> = list.iter().map(|place| format!("{:06x} at {}", place.hash, place.index)).collect();
+    let list = if list.is_empty() { "empty".to_string() } else { list.join(", ") };
+    format!(
+        "{state}, used {used}, erased {erased}, sequence {sequence:#x}, version {version:#x}, header CRC {header_crc:#x}, \
+         map {}, list {list}",
+        bytes(map)
+    )
+}
+
 fn print_sector(name: &str, sector: &[u8]) {
-    println!("  {name}: 0xFF but for");
-    for (line, bytes) in sector.chunks(32).enumerate().filter(|(_, bytes)| bytes.iter().any(|&byte| byte != 0xFF)) {
+    let programmed = |(_, bytes): &(usize, &[u8])| bytes.iter().any(|&byte| byte != 0xFF);
+    let lines: Vec<(usize, &[u8])> = sector.chunks(32).enumerate().filter(programmed).collect();
+    println!("  {name:<10} {}", if lines.is_empty() { "all 0xFF" } else { "0xFF but for" });
+    for (line, bytes) in lines {
         let place = match line {
             0 => "header".to_string(),
             1 => "map".to_string(),
             _ => format!("entry {}", line - 2),
         };
-        println!("    {place:<9} {}", hex(bytes));
+        println!("    {place:<9}{}", hex(bytes));
     }
 }
 
 fn print_difference(difference: Difference, case: &Case, sides: &Sides) {
-    let Sides { oracle, expected, got, .. } = sides;
-    let units = oracle.units().len();
-    println!("  the Rust answers {} after {units} units", name_of_number(expected.returned));
-    if difference.stop == NO_STOP {
-        println!("  ours answers {}", name_of_number(got.returned));
-    } else {
-        println!("  ours, told to stop after {}, answers {}", difference.stop, name_of_number(got.returned));
-    }
-    if difference.stop != NO_STOP && difference.part != Part::Number {
-        println!("  its {:?} is not that of the first {} units", difference.part, difference.stop.min(units as u64));
+    let Difference { part, stop } = difference;
+    let units = sides.oracle.units().len();
+    let stopped = stop < units as u64;
+    let (got, expected) = (&sides.got, if stopped { &sides.at_stop } else { &sides.expected });
+    let told = if stop == NO_STOP { String::new() } else { format!(", told to stop after {stop} units") };
+    if case.call < Call::Width {
+        println!("  the Rust   {:#x}\n  ours       {:#x}", expected.returned, got.returned);
         return;
     }
-    match difference.part {
-        Part::Number if case.call < Call::Width => println!("  {:#x}, ours {:#x}", expected.returned, got.returned),
+    println!("  the Rust   {}, {units} units in all", name_of_number(sides.expected.returned));
+    println!("  ours       {}{told}", name_of_number(got.returned));
+    match part {
         Part::Number => (),
-        Part::Answer => println!("  {}\n  {} is ours", hex(&expected.answer), hex(&got.answer)),
+        Part::Answer => print_bytes(&expected.answer, &got.answer, |at| format!("answer byte {at}")),
         Part::Output => print_bytes(&expected.output, &got.output, |at| format!("output byte {at}")),
         Part::Record => print_bytes(&expected.record, &got.record, Record::field_of),
         Part::Image => print_bytes(&expected.image, &got.image, |at| format!("image byte {at}")),
@@ -213,6 +262,6 @@ fn print_difference(difference: Difference, case: &Case, sides: &Sides) {
 fn print_bytes(rusts: &[u8], ours: &[u8], name: impl Fn(usize) -> String) {
     let differing = (0..rusts.len()).filter(|&at| rusts[at] != ours[at]);
     for at in differing.take(8) {
-        println!("  {}: {:#04x}, ours {:#04x}", name(at), rusts[at], ours[at]);
+        println!("             {}: {:#04x}, ours {:#04x}", name(at), rusts[at], ours[at]);
     }
 }

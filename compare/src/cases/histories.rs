@@ -91,7 +91,7 @@ fn step(runner: &mut Runner, random: &mut Random, case: &mut Case) -> bool {
     }
     let length = random.pick(&[0, 36, 200, LONGEST]);
     case.output.resize(length, 0x5A);
-    runner.check(case, if random.once_in(300) { Stops::Every } else { Stops::AtTheEnd })
+    runner.check(case, if random.once_in(60) { Stops::Every } else { Stops::AtTheEnd })
 }
 
 /// Mostly short; at times what just fits or just does not.

@@ -1,20 +1,20 @@
 -- Laws of the CRC: exclusive or, shifts, a digit of the register, a byte taken in, all bytes, the CRC.
 --
--- The one that the tables rest on is `shifts-digit`, over the width of a digit. The one that a word rests on is `register-number`, over the number of bytes.
+-- The tables rest on `shifts-digit`, over the width of a digit, and a word on `register-number`, over the number of bytes. The nibbles that are looked up are in `Nibbles`.
 -- Assumes nothing.
 use mathlib.Core.Path.{_≡_, refl, sym, ap, ap₂, _∙_}
 use mathlib.Core.List.{List, [], _∷_, _++_}
-use Prim.Native.Nat.{ℕ, zero, suc, _+_, _*_, _/_, _%_, _^_, _≤_, _<_}
-use native.Mathlib.Nat.{suc-add, zero-add, add-zero, add-suc, mod-lt, le-of-suc-le-suc, not-suc-le-zero}
+use Prim.Native.Nat.{ℕ, zero, suc, _+_, _-_, _*_, _/_, _%_, _^_, _≤_, _<_}
+use native.Mathlib.Nat.{le-refl, suc-add, zero-add, mod-lt}
 use native.Mathlib.Omega.{arith}
 use lib.Arith.{bin-ind, digits-mod}
 use lib.Bits.{bitXor, differ, xor-step, xor-shr, xor-comm, xor-zero-r, xor-lt, xor-shifted, shifted-half, shifted-even}
 use lib.Dec.{lit<}
 use lib.ListN.{length, getD, take, drop, length-take, length-drop, take-append-drop}
 use lib.Pow.{split, pow-pos, ones-sub-lt}
-use lib.Seq.{drop-cons, drop-drop, getD-drop}
+use lib.Seq.{take-all, drop-cons, drop-drop, getD-drop}
 use Rattle.crc.specs.Crc.{feedback, shift, shifts, intake, register, not32, crc32}
-use Rattle.crc.specs.Table.{tabulate, number}
+use Rattle.crc.specs.Nibble.{number}
 
 -- ---- exclusive or
 
@@ -120,18 +120,9 @@ shifts-digit w m x =
     ∙ ap (λ (y : ℕ). bitXor y (shifts (w + m) (x % 2 ^ w)))
     (shifts-add w m (x / 2 ^ w * 2 ^ w) ∙ ap (shifts m) (shifts-shifted w (x / 2 ^ w)))
 
--- what is looked up for the rest and for the low digit makes up the whole
+-- what is known of the rest and of the low digit makes up the whole
 pub digit-xor : (w m x : ℕ) {rest low : ℕ} → rest ≡ shifts m (x / 2 ^ w) → low ≡ shifts (w + m) (x % 2 ^ w) → bitXor rest low ≡ shifts (w + m) x
 digit-xor w m x p q = ap₂ bitXor p q ∙ sym (shifts-digit w m x)
-
-tabulate-from : (f : ℕ → ℕ) (n k i : ℕ) → i < n → getD (tabulate f k n) i 0 ≡ f (k + i)
-tabulate-from f zero k i h = absurd (not-suc-le-zero h)
-tabulate-from f (suc n) k zero h = ap f (sym (add-zero k))
-tabulate-from f (suc n) k (suc i) h = tabulate-from f n (suc k) i (le-of-suc-le-suc h) ∙ ap f (suc-add k i ∙ sym (add-suc k i))
-
--- a table is read
-pub getD-tabulate : (f : ℕ → ℕ) (n i : ℕ) → i < n → getD (tabulate f 0 n) i 0 ≡ f i
-getD-tabulate f n i h = tabulate-from f n 0 i h ∙ ap f (zero-add i)
 
 -- ---- a byte
 
@@ -181,6 +172,10 @@ unfolding register
 register-append r [] b = refl
 register-append r (byte ∷ a) b = register-append (intake r byte) a b
 
+-- the part of a slice from n on, as the code lends it
+pub take-rest : (n : ℕ) (l : List ℕ) → take (length l - n) (drop n l) ≡ drop n l
+take-rest n l = take-all (length l - n) (drop n l) (rw length-drop (le-refl (length l - n)))
+
 -- n bytes from a place on are taken in at once, and the others after them
 pub register-drop : (n r : ℕ) (bytes : List ℕ) (at : ℕ) → ((i : ℕ) → getD bytes i 0 < 256) → at + n ≤ length bytes
     → register (shifts (8 * n) (bitXor r (number (take n (drop at bytes))))) (drop (at + n) bytes) ≡ register r (drop at bytes)
@@ -192,6 +187,20 @@ register-drop n r bytes at h fits =
     (sym (drop-drop n at bytes))
     ∙ sym (register-append r (take n (drop at bytes)) (drop n (drop at bytes)))
     ∙ ap (register r) (take-append-drop n (drop at bytes))
+
+-- two words from a place on are taken in at once: the first has the shifts of the second to go too
+pub register-block : (r : ℕ) (bytes : List ℕ) (at : ℕ) → ((i : ℕ) → getD bytes i 0 < 256) → at + 8 ≤ length bytes
+    → register (bitXor (shifts 64 (bitXor r (number (take 4 (drop at bytes))))) (shifts 32 (number (take 4 (drop (at + 4) bytes))))) (drop (at + 8) bytes)
+    ≡ register r (drop at bytes)
+register-block r bytes at h fits =
+    let low : ℕ = bitXor r (number (take 4 (drop at bytes))) in
+    let high : ℕ = number (take 4 (drop (at + 4) bytes)) in
+    let next : at + 8 ≡ at + 4 + 4 = omega arith in
+    ap₂ register
+    (ap (λ (x : ℕ). bitXor x (shifts 32 high)) (shifts-add 32 32 low) ∙ sym (shifts-xor 32 (shifts 32 low) high))
+    (ap (λ (n : ℕ). drop n bytes) next)
+    ∙ register-drop 4 (shifts 32 low) bytes (at + 4) h (omega arith)
+    ∙ register-drop 4 r bytes at h (omega arith)
 
 pub register-lt : (r : ℕ) (bytes : List ℕ) → r < 2 ^ 32 → ((i : ℕ) → getD bytes i 0 < 256) → register r bytes < 2 ^ 32
 unfolding register

@@ -1,3 +1,4 @@
 pub mod Laws
+pub mod Nibbles
 pub mod Unique
 mod Examples

@@ -134,7 +134,7 @@ fn u16_of(low: u8, high: u8) -> usize
 }
 
 // The payload's size, as an item's header entry has it.
-fn size_of(entry: [u8; 32]) -> usize
+pub fn size_of(entry: [u8; 32]) -> usize
     ensures { λ r. ⌜ (r ≡ sizeOf entry) × (r < 2 ^ 16) ⌝ }
 {
     u16_of(entry[24], entry[25])

@@ -8,3 +8,8 @@ pub mod OpenedFront
 pub mod KeptItem
 pub mod ErasedBytes
 pub mod TwoPasses
+pub mod Arrays
+pub mod Entries
+pub mod Steps
+pub mod FreeTail
+pub mod Progress

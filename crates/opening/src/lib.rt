@@ -1,4 +1,9 @@
 // Opening a sector: the reading, and the map and record that it leaves. Added by this port.
+use page::Listed;
+
+mod kept;
+mod reading;
+mod walk;
 
 // The rule of the reading that refused an entry or an item.
 pub enum Reason {
@@ -27,4 +32,17 @@ pub enum HeaderVerdict {
     WrongPageState,
     WrongVersion,
     WrongHeaderCrc,
+}
+
+// Items outside namespace 0: 126 places, of which len are in use.
+pub struct Listing {
+    pub len: usize,
+    pub list: [Listed; 126],
+}
+
+// What the walk leaves: the map with its marks, which entries are headers of refused payload items, the kept items.
+pub struct Walked {
+    pub map: [u8; 32],
+    pub heads: [bool; 126],
+    pub listing: Listing,
 }

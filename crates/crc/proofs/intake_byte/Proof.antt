@@ -1,25 +1,31 @@
 -- `crc::intake_byte` meets its contract: the two nibbles that fall out are looked up, and the rest has no shift left to go.
-use mathlib.Core.Path.{refl}
-use Prim.Native.Nat.{_/_}
+use mathlib.Core.Path.{refl, ap, _∙_}
+use Prim.Native.Nat.{ℕ, _/_}
+use native.Mathlib.Omega.{arith}
 use lib.Bits.{bitXor}
 use Rattle.crc.specs.Crc.{intake, shifts}
-use Rattle.crc.proofs.Laws.{digit-xor}
+use Rattle.crc.proofs.Nibbles.{nibble-xor}
 use borrow.Author.Needs.{needs}
 use Rattle.crc.proofs.intake_byte.Statement.{statement}
 use Rattle.crc.proofs.intake_byte.Tie as tie
 
-nibble-at-requires : tie.Need-nibble-at-requires
-nibble-at-requires c κs = search needs
+wide-requires : tie.Need-wide-requires
+wide-requires c κs = search needs
 
-nibble-at-requires-2 : tie.Need-nibble-at-requires-2
-nibble-at-requires-2 c κs = search needs
+nibble-4-requires : tie.Need-nibble-4-requires
+nibble-4-requires c κs = search needs
+
+nibble-8-requires : tie.Need-nibble-8-requires
+nibble-8-requires c κs = search needs
 
 returns : tie.Need-returns
 unfolding intake shifts
 returns c =
-    let start = c .before .before in
-    let whole = bitXor (start .args .register) (start .args .byte) in
-    digit-xor 4 4 whole (digit-xor 4 0 (whole / 16) refl (c .before .nibble-at .ensures)) (c .nibble-at2 .ensures)
+    let c2 = c .before in
+    let c1 = c2 .before in
+    let whole = bitXor (c1 .before .args .register) (c1 .wide .result) in
+    nibble-xor 4 8 whole refl (omega arith) (nibble-xor 0 4 (whole / 16) refl (omega arith) refl (c2 .nibble-4 .ensures)) (c .nibble-8 .ensures)
+    ∙ ap (λ (byte : ℕ). intake (c1 .before .args .register) byte) (c1 .wide .ensures .0)
 
 pub intake-byte-spec : {M : Type 1} → statement M
-intake-byte-spec = tie.close (tie.spec nibble-at-requires nibble-at-requires-2 returns)
+intake-byte-spec = tie.close (tie.spec wide-requires nibble-4-requires nibble-8-requires returns)

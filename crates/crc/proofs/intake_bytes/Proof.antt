@@ -11,10 +11,10 @@ use Rattle.crc.proofs.intake_bytes.Statement.{statement}
 use Rattle.crc.proofs.intake_bytes.Tie as tie
 
 abbrev Inv-loop : tie.InvT-loop
-Inv-loop table start bytes crc₀ at₀ crc at = (at ≤ length bytes) × (register crc (drop at bytes) ≡ register start bytes)
+Inv-loop start bytes crc₀ at₀ crc at = (at ≤ length bytes) × (register crc (drop at bytes) ≡ register start bytes)
 
 abbrev μ-loop : tie.MeasureT-loop
-μ-loop table start bytes crc₀ at₀ crc at = length bytes - at
+μ-loop start bytes crc₀ at₀ crc at = length bytes - at
 
 loop-holds : tie.Need-loop-holds Inv-loop μ-loop
 loop-holds c = (search needs, refl)

@@ -1,0 +1,108 @@
+-- The walk as a loop takes it, from index to index: k entries stepped over are k entries dropped.
+-- Assumes nothing.
+use mathlib.Core.Path.{_≡_, refl, sym, ap, _∙_}
+use mathlib.Core.Bool.{Bool, true, false, _&&_, _||_, not, cond}
+use mathlib.Core.List.{List, [], _∷_, _++_}
+use mathlib.Core.Option.{Option, none, some}
+use Prim.Native.Nat.{ℕ, zero, suc, _+_, _-_, _<_, _≤_, zero-le}
+use native.Mathlib.Nat.{le-of-suc-le-suc, not-suc-le-zero, add-zero, add-suc, suc-add, le-refl}
+use native.Mathlib.Omega.{arith}
+use lib.Dec.{eqb, ltb}
+use borrow.Author.Tests.{ltb-false}
+use lib.ListN.{length, take, drop, getD, replicate}
+use Rattle.sector.specs.declared.EntryMapState.{EntryMapState}
+use Rattle.sector.specs.declared.EntryMapState.the-variants.{Empty, Written, Erased, Illegal}
+use Rattle.flash.specs.Flash.{allOnes}
+use Rattle.sector.specs.Item.{crcRight}
+use Rattle.sector.specs.Layout.{spanOf}
+use Rattle.opening.specs.Reading.{Reason, AllOnes, CrcWrong, SpanOffPage, firstRule, spanOffPage, Verdict, NotAnItem, RefusedEntry, RefusedItem, Kept, Item, covered, headerRefusal, payloadRefusal, usable, itemVerdict, headerVerdict, verdictAt, stepsOver, markOf, markBehind, walk, withKept, keptFrom}
+use Rattle.opening.specs.Opening.{isRefusedItem, refusedHeaders}
+
+walk-mark : (mark : EntryMapState) (states : List EntryMapState) (entries : List (List ℕ))
+    → walk zero mark states entries ≡ walk zero Erased states entries
+walk-mark mark [] entries = refl
+walk-mark mark (s ∷ states) [] = refl
+walk-mark mark (s ∷ states) (entry ∷ entries) = refl
+
+pub walk-skip : (k : ℕ) (mark : EntryMapState) (states : List EntryMapState) (entries : List (List ℕ)) → k ≤ length states → k ≤ length entries
+    → walk k mark states entries ≡ replicate k mark ++ walk zero Erased (drop k states) (drop k entries)
+walk-skip zero mark states entries h g = walk-mark mark states entries
+walk-skip (suc k) mark [] entries h g = absurd (not-suc-le-zero h)
+walk-skip (suc k) mark (s ∷ states) [] h g = absurd (not-suc-le-zero g)
+walk-skip (suc k) mark (s ∷ states) (entry ∷ entries) h g =
+    ap (λ (rest : List EntryMapState). mark ∷ rest) (walk-skip k mark states entries (le-of-suc-le-suc h) (le-of-suc-le-suc g))
+
+pub refused-headers-skip : (k : ℕ) (states : List EntryMapState) (entries : List (List ℕ)) → k ≤ length states → k ≤ length entries
+    → refusedHeaders k states entries ≡ replicate k false ++ refusedHeaders zero (drop k states) (drop k entries)
+refused-headers-skip zero states entries h g = refl
+refused-headers-skip (suc k) [] entries h g = absurd (not-suc-le-zero h)
+refused-headers-skip (suc k) (s ∷ states) [] h g = absurd (not-suc-le-zero g)
+refused-headers-skip (suc k) (s ∷ states) (entry ∷ entries) h g =
+    ap (λ (rest : List Bool). false ∷ rest) (refused-headers-skip k states entries (le-of-suc-le-suc h) (le-of-suc-le-suc g))
+
+pub kept-skip : (k i : ℕ) (states : List EntryMapState) (entries : List (List ℕ)) → k ≤ length states → k ≤ length entries
+    → keptFrom k i states entries ≡ keptFrom zero (i + k) (drop k states) (drop k entries)
+kept-skip zero i states entries h g = rw add-zero
+kept-skip (suc k) i [] entries h g = absurd (not-suc-le-zero h)
+kept-skip (suc k) i (s ∷ states) [] h g = absurd (not-suc-le-zero g)
+kept-skip (suc k) i (s ∷ states) (entry ∷ entries) h g =
+    rw (add-suc, ← suc-add i k) (kept-skip k (suc i) states entries (le-of-suc-le-suc h) (le-of-suc-le-suc g))
+
+-- ---- what a verdict says of the states and entries that it was made of
+
+no-rule : (applies : Bool) (reason : Reason) (rest : Option Reason) → cond applies (some reason) rest ≡ none
+    → (applies ≡ false) × (rest ≡ none)
+no-rule true reason rest e = let z : _≡_ {A = ℕ} 0 1 = cc in absurd (omega arith)
+no-rule false reason rest e = (refl, e)
+
+or-false-right : (a b : Bool) → (a || b) ≡ false → b ≡ false
+or-false-right true b e = let z : _≡_ {A = ℕ} 0 1 = cc in absurd (omega arith)
+or-false-right false b e = e
+
+covered-le : (entry : List ℕ) (left : ℕ) → headerRefusal entry left ≡ none → covered entry ≤ left
+unfolding headerRefusal
+covered-le entry left e =
+    let loads = no-rule (allOnes entry) AllOnes _ e .1 in
+    let span = no-rule (not (crcRight entry)) CrcWrong _ loads .1 in
+    let within = no-rule (spanOffPage entry left) SpanOffPage _ span .0 in
+    ltb-false left (covered entry) (or-false-right (eqb (spanOf entry) 0) (ltb left (covered entry)) within)
+
+steps-over-item : (refusal : Option Reason) (allUsable : Bool) (k : ℕ) → stepsOver (itemVerdict refusal allUsable k) ≡ k
+steps-over-item (some reason) allUsable k = refl
+steps-over-item none true k = refl
+steps-over-item none false k = refl
+
+-- the walk steps over entries of the page
+pub steps-over-le : (s : EntryMapState) (entry : List ℕ) (states : List EntryMapState) (entries : List (List ℕ))
+    → stepsOver (verdictAt s entry states entries) ≤ length entries
+steps-over-le Empty entry states entries = zero-le
+steps-over-le Written entry states entries = go (headerRefusal entry (length entries)) refl
+  where
+    go : (refusal : Option Reason) → headerRefusal entry (length entries) ≡ refusal
+        → stepsOver (headerVerdict refusal entry states entries) ≤ length entries
+    go (some reason) e = zero-le
+    go none e =
+        rw (steps-over-item (payloadRefusal entry (take (covered entry) entries)) (usable (covered entry) states) (covered entry))
+        (covered-le entry (length entries) e)
+steps-over-le Erased entry states entries = zero-le
+steps-over-le Illegal entry states entries = zero-le
+
+item-kept : (refusal : Option Reason) (allUsable : Bool) (c k : ℕ) → itemVerdict refusal allUsable c ≡ Kept k
+    → (allUsable ≡ true) × (c ≡ k)
+item-kept (some reason) allUsable c k e = let z : _≡_ {A = ℕ} 0 1 = cc in absurd (omega arith)
+item-kept none true c k e = (refl, cc)
+item-kept none false c k e = let z : _≡_ {A = ℕ} 0 1 = cc in absurd (omega arith)
+
+-- a kept header is Written, and the entries that it covers are usable
+pub kept-usable : (s : EntryMapState) (entry : List ℕ) (states : List EntryMapState) (entries : List (List ℕ)) (k : ℕ)
+    → verdictAt s entry states entries ≡ Kept k → (s ≡ Written) × (usable k states ≡ true)
+kept-usable Empty entry states entries k e = let z : _≡_ {A = ℕ} 0 1 = cc in absurd (omega arith)
+kept-usable Written entry states entries k e = (refl, go (headerRefusal entry (length entries)) e)
+  where
+    go : (refusal : Option Reason) → headerVerdict refusal entry states entries ≡ Kept k → usable k states ≡ true
+    go (some reason) kept = let z : _≡_ {A = ℕ} 0 1 = cc in absurd (omega arith)
+    go none kept =
+        let both = item-kept (payloadRefusal entry (take (covered entry) entries)) (usable (covered entry) states) (covered entry) k kept in
+        ap (λ (n : ℕ). usable n states) (sym (both .1)) ∙ both .0
+kept-usable Erased entry states entries k e = let z : _≡_ {A = ℕ} 0 1 = cc in absurd (omega arith)
+kept-usable Illegal entry states entries k e = let z : _≡_ {A = ℕ} 0 1 = cc in absurd (omega arith)

@@ -1,0 +1,143 @@
+-- `walk::walk` meets its contract: up to the index reached the map, the refused headers and the list are the walk's, and from there on nothing is done yet.
+use mathlib.Core.Path.{_≡_, refl, sym, ap, _∙_}
+use mathlib.Core.List.{List}
+use Prim.Native.Nat.{ℕ, _+_, _-_, _<_, _≤_}
+use native.Mathlib.Omega.{arith}
+use borrow.Author.Needs.{needs}
+use lib.ListN.{length}
+use Rattle.sector.specs.Layout.{entryAt}
+use Rattle.opening.specs.Reading.{Verdict, stepsOver}
+use Rattle.opening.specs.Opening.{isRefusedItem}
+use Rattle.opening.specs.Steps.{markedBy, listedBy}
+use Rattle.opening.proofs.Arrays.{bytes-of-array}
+use Rattle.opening.proofs.Progress.{verdictOf, steps-inside, MarkedTo, marked-start, marked-step, marked-end, HeadsTo, heads-start, heads-step, heads-end, ListedTo, listed-start, listed-step, listed-end}
+use Rattle.opening.proofs.walk.walk.Statement.{statement}
+use Rattle.opening.proofs.walk.walk.Tie as tie
+use Rattle.opening.proofs.walk.walk.Reads as reads
+use Rattle.opening.proofs.walk.walk.Lts as lts
+use Rattle.opening.proofs.kept.empty.Reads as empty-reads
+use Rattle.opening.proofs.kept.listed_by.Reads as listed-by-reads
+use Rattle.opening.proofs.reading.verdict_at.Reads as verdict-at-reads
+use Rattle.opening.proofs.walk.is_refused_item.Reads as is-refused-item-reads
+use Rattle.opening.proofs.walk.marked_by.Reads as marked-by-reads
+use Rattle.opening.proofs.walk.steps_over.Reads as steps-over-reads
+
+abbrev Inv-loop : tie.InvT-loop
+Inv-loop image map marked₀ heads₀ listing₀ index₀ marked heads listing index =
+    (index ≤ 126)
+    × MarkedTo image map marked index
+    × HeadsTo image map heads index
+    × ListedTo image map listing index
+
+abbrev μ-loop : tie.MeasureT-loop
+μ-loop image map marked₀ heads₀ listing₀ index₀ marked heads listing index = 126 - index
+
+empty-requires : tie.Need-empty-requires Inv-loop μ-loop
+empty-requires c κs = search needs
+
+long : (c : tie.Start Inv-loop μ-loop) → length (c .args .map) ≡ 32
+long c = c .good .1 .0 .1 .0 .1
+
+verdict : (c : tie.After-verdict-at Inv-loop μ-loop)
+    → let start = c .before .before .before .before .before in
+      verdictOf (start .args .image .now) (start .args .map) (c .before .before .loop .index) ≡ c .verdict-at .result
+verdict c = sym (c .verdict-at .ensures)
+
+fits : (c : tie.After-verdict-at Inv-loop μ-loop) → c .before .before .loop .index + stepsOver (c .verdict-at .result) < 126
+fits c =
+    let start = c .before .before .before .before .before in
+    rw (verdict c) at (steps-inside (start .args .image .now) (start .args .map) (c .before .before .loop .index) (long start) (c .before .loop-test .taken))
+
+loop-holds : tie.Need-loop-holds Inv-loop μ-loop
+loop-holds c =
+    let start = c .before .before in
+    let image = start .args .image .now in
+    let map = start .args .map in
+    (search needs, marked-start image map (long start) (bytes-of-array map _ (start .good .1 .0 .1 .1)), heads-start image map, rw (c .empty .ensures) (listed-start image map))
+
+verdict-at-requires : tie.Need-verdict-at-requires Inv-loop μ-loop
+verdict-at-requires c κs = search needs
+
+marked-by-requires : tie.Need-marked-by-requires Inv-loop μ-loop
+marked-by-requires c κs = fits c
+
+is-refused-item-requires : tie.Need-is-refused-item-requires Inv-loop μ-loop
+is-refused-item-requires c κs = search needs
+
+array-write-heads : tie.Need-array-write-heads Inv-loop μ-loop
+array-write-heads c = search needs
+
+listed-by-requires : tie.Need-listed-by-requires Inv-loop μ-loop
+listed-by-requires c κs =
+    let within = c .before .before .before .before .loop .inv .3 .within in
+    search needs
+
+add-index : tie.Need-add-index Inv-loop μ-loop
+add-index c = search needs
+
+steps-over-requires : tie.Need-steps-over-requires Inv-loop μ-loop
+steps-over-requires c κs = search needs
+
+add-index-2 : tie.Need-add-index-2 Inv-loop μ-loop
+add-index-2 c =
+    let steps = c .steps-over .ensures in
+    omega (arith, fits (c .before .before .before .before))
+
+loop-less : tie.Need-loop-less Inv-loop μ-loop
+loop-less c =
+    let steps = c .steps-over .ensures in
+    omega (arith, fits (c .before .before .before .before))
+
+loop-again : tie.Need-loop-again Inv-loop μ-loop
+loop-again c =
+    let listed = c .before in
+    let headed = listed .before in
+    let marked = headed .before in
+    let decided = marked .before in
+    let at = decided .before .before in
+    let start = at .before .before .before in
+    let image = start .args .image .now in
+    let map = start .args .map in
+    let index = at .loop .index in
+    let inside = decided .before .loop-test .taken in
+    let steps = c .steps-over .ensures in
+    (
+      omega (arith, fits decided),
+      rw (steps, marked .marked-by .ensures) (marked-step image map (at .loop .marked) index (long start) inside (at .loop .inv .1) (decided .verdict-at .result) (verdict decided)),
+      rw (steps, headed .is-refused-item .ensures, ← verdict decided) (heads-step image map (at .loop .heads) index (long start) inside (at .loop .inv .2)),
+      rw (steps, listed .listed-by .ensures) (listed-step image map (at .loop .listing) index (long start) inside (at .loop .inv .3) (decided .verdict-at .result) (verdict decided)),
+    )
+
+returns : tie.Need-returns Inv-loop μ-loop
+returns c =
+    let at = c .before in
+    let start = at .before .before .before in
+    let image = start .args .image .now in
+    let map = start .args .map in
+    let end : at .loop .index ≡ 126 = omega arith in
+    (
+      marked-end image map (at .loop .marked) (at .loop .index) (long start) end (at .loop .inv .1),
+      at .loop .inv .1 .spare,
+      heads-end image map (at .loop .heads) (at .loop .index) (long start) end (at .loop .inv .2),
+      listed-end image map (at .loop .listing) (at .loop .index) (long start) end (at .loop .inv .3),
+    )
+
+pub walk-spec : {M : Type 1} → statement M
+walk-spec =
+    tie.close
+    (tie.spec
+    Inv-loop
+    μ-loop
+    empty-requires
+    loop-holds
+    verdict-at-requires
+    marked-by-requires
+    is-refused-item-requires
+    array-write-heads
+    listed-by-requires
+    add-index
+    steps-over-requires
+    add-index-2
+    loop-less
+    loop-again
+    returns)

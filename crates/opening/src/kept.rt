@@ -1,0 +1,76 @@
+// The list of kept items outside namespace 0, as opening makes it: place by place, in rising index.
+ghost use mathlib.Core.Path.{_≡_};
+ghost use mathlib.Core.List.{[]};
+ghost use Prim.Native.Nat.{_<_};
+ghost use lib.ListN.{length};
+ghost use Rattle.sector.specs.Item.{hashOfItem};
+ghost use Rattle.sector.specs.Layout.{sectorSize, entriesPerPage, entryAt, keyOf};
+ghost use Rattle.opening.specs.Steps.{listingOf, withItem, listedBy};
+use crate::Listing;
+use crate::Verdict;
+use page::Listed;
+use sector::item;
+
+const KEY_OFFSET: usize = 8;
+
+fn key_of(entry: [u8; 32]) -> [u8; 16]
+    ensures { λ r. ⌜ r ≡ keyOf entry ⌝ }
+{
+    let mut key = [0u8; 16];
+    for k in 0..16usize {
+        key[k] = entry[KEY_OFFSET + k];
+    }
+    key
+}
+
+// The hash of an item's header entry.
+fn hash_of(entry: [u8; 32]) -> u32
+    ensures { λ r. ⌜ r ≡ hashOfItem entry ⌝ }
+{
+    item::calculate_hash(entry[0], key_of(entry), entry[3])
+}
+
+// No place in use.
+pub fn empty() -> Listing
+    ensures { λ r. ⌜ r ≡ listingOf [] ⌝ }
+{
+    let place = Listed { hash: 0, index: 0 };
+    Listing {
+        len: 0,
+        list: [place; 126],
+    }
+}
+
+// One place more for the item at an entry, unless it is in namespace 0.
+fn with_item(listing: Listing, entry: [u8; 32], index: usize) -> Listing
+    requires { ⌜ (index < entriesPerPage) × (listing .len < entriesPerPage) ⌝ }
+    ensures { λ r. ⌜ r ≡ withItem index entry listing ⌝ }
+{
+    if entry[0] == 0 {
+        return listing;
+    }
+    let hash = hash_of(entry);
+    let len = listing.len;
+    let mut list = listing.list;
+    list[len] = Listed {
+        hash,
+        index: index as u8,
+    };
+    Listing {
+        len: len + 1,
+        list,
+    }
+}
+
+// One place more where the verdict at an entry keeps an item.
+pub fn listed_by(listing: Listing, image: &[u8], index: usize, verdict: Verdict) -> Listing
+    requires { ⌜ (length (now image) ≡ sectorSize) × (index < entriesPerPage) × (listing .len < entriesPerPage) ⌝ }
+    ensures { λ r. ⌜ r ≡ listedBy verdict index (entryAt (now (image .entry)) index) listing ⌝ }
+{
+    match verdict {
+        Verdict::NotAnItem => listing,
+        Verdict::RefusedEntry(_) => listing,
+        Verdict::RefusedItem(_, _) => listing,
+        Verdict::Kept(_) => with_item(listing, load::entry_at(image, index), index),
+    }
+}

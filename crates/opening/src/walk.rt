@@ -1,0 +1,81 @@
+// The walk over the entries: from header to header, each verdict marked in the map and its item listed.
+ghost use mathlib.Core.Path.{_≡_};
+ghost use mathlib.Core.List.{[]};
+ghost use Prim.Native.Nat.{zero, _+_, _<_};
+ghost use lib.ListN.{length, drop};
+ghost use Rattle.sector.specs.Layout.{sectorSize, entriesPerPage, entriesOf};
+ghost use Rattle.sector.specs.Map.{unpack, statesOf};
+ghost use Rattle.opening.specs.Reading.{stepsOver, walk, keptFrom};
+ghost use Rattle.opening.specs.Opening.{isRefusedItem, refusedHeaders, listedItems};
+ghost use Rattle.opening.specs.Steps.{markedBy, listingOf};
+use crate::Verdict;
+use crate::Walked;
+use crate::kept;
+use crate::reading;
+use sector::EntryMapState;
+use sector::map;
+
+const ENTRIES_PER_PAGE: usize = 126;
+
+fn steps_over(verdict: Verdict) -> usize
+    ensures { λ r. ⌜ r ≡ stepsOver verdict ⌝ }
+{
+    match verdict {
+        Verdict::NotAnItem => 0,
+        Verdict::RefusedEntry(_) => 0,
+        Verdict::RefusedItem(_, covered) => covered,
+        Verdict::Kept(covered) => covered,
+    }
+}
+
+fn is_refused_item(verdict: Verdict) -> bool
+    ensures { λ r. ⌜ r ≡ isRefusedItem verdict ⌝ }
+{
+    match verdict {
+        Verdict::NotAnItem => false,
+        Verdict::RefusedEntry(_) => false,
+        Verdict::RefusedItem(_, _) => true,
+        Verdict::Kept(_) => false,
+    }
+}
+
+// The map with the mark that a verdict gives: what is kept is Written, what is refused Erased.
+fn marked_by(map: [u8; 32], index: usize, verdict: Verdict) -> [u8; 32]
+    requires { ⌜ index + stepsOver verdict < entriesPerPage ⌝ }
+    ensures { λ r. ⌜ r ≡ markedBy verdict index map ⌝ }
+{
+    match verdict {
+        Verdict::NotAnItem => map,
+        Verdict::RefusedEntry(_) => map::mark_range(map, EntryMapState::Erased, index, 1),
+        Verdict::RefusedItem(_, covered) => {
+            map::mark_range(map, EntryMapState::Erased, index, covered + 1)
+        }
+        Verdict::Kept(covered) => {
+            map::mark_range(map, EntryMapState::Written, index, covered + 1)
+        }
+    }
+}
+
+// Walks from entry 0 to the last: what it leaves of the map, where it refused a payload item, and the items that it kept.
+pub fn walk(image: &[u8], map: [u8; 32]) -> Walked
+    requires { ⌜ length (now image) ≡ sectorSize ⌝ }
+    ensures { λ r. ⌜ (statesOf (r .map) ≡ walk zero EntryMapState.Erased (statesOf map) (entriesOf (now (image .entry)))) × (drop entriesPerPage (unpack (r .map)) ≡ drop entriesPerPage (unpack map)) × (r .heads ≡ refusedHeaders zero (statesOf map) (entriesOf (now (image .entry)))) × (r .listing ≡ listingOf (listedItems (keptFrom zero zero (statesOf map) (entriesOf (now (image .entry)))))) ⌝ }
+{
+    let mut marked = map;
+    let mut heads = [false; 126];
+    let mut listing = kept::empty();
+    let mut index: usize = 0;
+    while index < ENTRIES_PER_PAGE {
+        let verdict = reading::verdict_at(image, map, index);
+        let next = marked_by(marked, index, verdict);
+        marked = next;
+        heads[index] = is_refused_item(verdict);
+        listing = kept::listed_by(listing, image, index, verdict);
+        index = index + 1 + steps_over(verdict);
+    }
+    Walked {
+        map: marked,
+        heads,
+        listing,
+    }
+}
