@@ -8,3 +8,4 @@ pub mod Begun
 pub mod KeptAt
 pub mod Laid
 pub mod AtHand
+pub mod Headers
