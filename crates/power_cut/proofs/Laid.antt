@@ -223,7 +223,7 @@ module _ {image : List ℕ} {items : List Item} (p : Standing image items) where
         ∙ ap (λ (offset : ℕ). take count (drop offset (chunks 126 bytes))) (sym offset-is)
         ∙ place .there
 
-    entry-is : entryAt source index ≡ place .entry
+    pub entry-is : entryAt source index ≡ place .entry
     unfolding chunks
     entry-is =
         let e : take 32 bytes-there ∷ chunks (length (place .new)) (drop 32 bytes-there) ≡ place .entry ∷ place .new = there-is in

@@ -9,3 +9,5 @@ pub mod KeptAt
 pub mod Laid
 pub mod AtHand
 pub mod Headers
+pub mod Accepted
+pub mod Started
