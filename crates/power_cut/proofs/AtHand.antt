@@ -60,30 +60,23 @@ unfolding countIn
 count-empties s zero e = refl
 count-empties s (suc n) e = rw (e, count-empties s n e)
 
-module _ {image : List ℕ} {items : List Item} (p : Standing image items) where
-  abbrev rest : List ℕ
-  rest = p .map ++ (p .used ++ replicate (32 * p .spare) 0xFF)
+-- what opening reads of an image, from its header, the map that it leaves, and the items that it keeps
+module _ (image header rest map : List ℕ) (front : States) (spare : ℕ) (items : List Item) (split : image ≡ header ++ rest) (size : length header ≡ 32)
+    (map-is : openedMap image ≡ map) (states : statesOf map ≡ front ++ replicate spare Empty) (kept : keptItems image ≡ items) where
+  header-field : (offset width : ℕ) → offset + width ≤ 32 → field offset width image ≡ field offset width header
+  header-field offset width h = ap (field offset width) split ∙ field-front offset width header rest (omega arith)
 
-  header-field : (offset size : ℕ) → offset + size ≤ 32 → field offset size image ≡ field offset size (p .header)
-  header-field offset size h = ap (field offset size) (p .split) ∙ field-front offset size (p .header) rest (omega (arith, p .header-size))
+  header-version : versionOf image ≡ versionOf header
+  header-version = sym (getD-take 32 image 8 0 (omega arith)) ∙ ap (λ (bytes : List ℕ). getD bytes 8 0) (ap (take 32) split ∙ take-at header rest 32 size)
 
-  header-version : versionOf image ≡ versionOf (p .header)
-  header-version = sym (getD-take 32 image 8 0 (omega arith)) ∙ ap (λ (bytes : List ℕ). getD bytes 8 0) front
-    where
-      front : take 32 image ≡ p .header
-      front = ap (take 32) (p .split) ∙ take-at (p .header) rest 32 (p .header-size)
-
-  map-is : openedMap image ≡ p .map
-  map-is = standing-openedMap p ∙ standing-map p
-
-  count-front : (s : EntryMapState) → sameState s Empty ≡ false → countIn s (statesOf (openedMap image)) ≡ countIn s (p .front)
+  count-front : (s : EntryMapState) → sameState s Empty ≡ false → countIn s (statesOf (openedMap image)) ≡ countIn s front
   count-front s e =
       ap (λ (map : List ℕ). countIn s (statesOf map)) map-is
-      ∙ ap (countIn s) (p .states)
-      ∙ countIn-append s (p .front) (replicate (p .spare) Empty)
-      ∙ omega (arith, count-empties s (p .spare) e)
+      ∙ ap (countIn s) states
+      ∙ countIn-append s front (replicate spare Empty)
+      ∙ omega (arith, count-empties s spare e)
 
-  pub opened-is : openedPage image ≡ pageOf (p .header) (p .map) (p .front) items
+  pub opened-is : openedPage image ≡ pageOf header map front items
   unfolding openedPage
   opened-is =
       rw (
@@ -91,11 +84,16 @@ module _ {image : List ℕ} {items : List Item} (p : Standing image items) where
         header-field 4 4 (omega arith),
         header-field 28 4 (omega arith),
         header-version,
-        standing-kept p,
+        kept,
         count-front Written refl,
         count-front Erased refl,
         map-is,
       )
+
+pub standing-page : {image : List ℕ} {items : List Item} (p : Standing image items) → openedPage image ≡ pageOf (p .header) (p .map) (p .front) items
+standing-page {image} {items} p =
+    opened-is image (p .header) (p .map ++ (p .used ++ replicate (32 * p .spare) 0xFF)) (p .map) (p .front) (p .spare) items
+    (p .split) (p .header-size) (standing-openedMap p ∙ standing-map p) (p .states) (standing-kept p)
 
 -- ---- one more item
 

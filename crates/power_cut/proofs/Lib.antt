@@ -11,3 +11,4 @@ pub mod AtHand
 pub mod Headers
 pub mod Accepted
 pub mod Started
+pub mod Held
