@@ -85,7 +85,7 @@ mixed-split (suc q) zero r = rw zero-add (take-append-drop (suc q) (replicate r 
 mixed-split (suc q) (suc k) r = rw suc-add (ap (λ (rest : States). Written ∷ rest) (mixed-split q k r))
 
 -- the state word lies in the header
-within-full : (end : ℕ) → Within 0 4 (fullUnits end)
+pub within-full : (end : ℕ) → Within 0 4 (fullUnits end)
 within-full end = by-test (eqb end 126)
   where
     by-test : (last : Bool) → Within 0 4 (cond last (units 0 (stateBytes Full)) [])
@@ -155,7 +155,7 @@ module _ {image : List ℕ} {items : List Item} (p : Standing image items) {entr
       ∙ run-take-mapUnits Written start span (p .header) (p .map) (p .used ++ (w .laid ++ behind)) (p .header-size) (p .map-size)
       (subst Bytes (w .does) (bytes-run us (p .bytes))) (omega arith) (omega (arith, inside)) j
 
-  abbrev marks : List Unit4
+  abbrev pub marks : List Unit4
   marks = mapUnits start span (markRange Written start span (p .map))
 
   abbrev full : List Unit4
@@ -165,13 +165,17 @@ module _ {image : List ℕ} {items : List Item} (p : Standing image items) {entr
   plan = itemPlan us start span (p .map)
 
   -- the header, and the map, when n units are done and the marks are reached
-  abbrev headerAt : ℕ → List ℕ
+  abbrev pub headerAt : ℕ → List ℕ
   headerAt n = run (take (n - length us - length marks) full) (p .header)
 
   abbrev mapAt : ℕ → List ℕ
   mapAt n =
       let reach = 4 * (start / 16 + (n - length us)) in
       take reach (markRange Written start span (p .map)) ++ drop reach (p .map)
+
+  -- what lies behind the header then
+  abbrev pub restAt : ℕ → List ℕ
+  restAt n = mapAt n ++ (p .used ++ (w .laid ++ behind))
 
   pub image-after : (n : ℕ) → length us < n → run (take n plan) image ≡ laidIn (headerAt n) (mapAt n)
   unfolding itemPlan
@@ -184,23 +188,30 @@ module _ {image : List ℕ} {items : List Item} (p : Standing image items) {entr
       ∙ ap (run (take q full)) (run-marks j)
       ∙ run-inside (p .header) (mapAt n ++ (p .used ++ (w .laid ++ behind))) (within-take q (within-full (start + span))) (omega (arith, p .header-size))
 
-  headerAt-size : (n : ℕ) → length (headerAt n) ≡ 32
+  pub headerAt-size : (n : ℕ) → length (headerAt n) ≡ 32
   headerAt-size n = length-run (take (n - length us - length marks) full) (p .header) ∙ p .header-size
 
   -- ---- what is kept
 
-  -- before the first mark: the earlier items
-  pub kept-before : (n : ℕ) → n ≤ length us → keptItems (run (take n plan) image) ≡ items
+  -- before the first mark nothing in front of the blank entries changes
+  pub image-before : (n : ℕ) → n ≤ length us
+      → run (take n plan) image
+      ≡ p .header ++ (p .map ++ (p .used ++ drop (length (front-bytes p)) (run (take n us) (front-bytes p ++ replicate (32 * p .spare) 0xFF))))
   unfolding itemPlan
-  kept-before n h =
+  image-before n h =
       let blanks : List ℕ = replicate (32 * p .spare) 0xFF in
       let done = take n us in
-      let image′ = run done (front-bytes p ++ blanks) in
       let within = subst (λ (from : ℕ). Within from (entryAddress (start + span)) done) (sym (front-size p)) (within-take n (w .within)) in
-      ap (λ (plan : List Unit4). keptItems (run plan image)) (take-append-le n us (marks ++ full) h)
-      ∙ ap (λ (before : List ℕ). keptItems (run done before)) (p .split ∙ sym (regroup p blanks))
-      ∙ ap keptItems (run-past (front-bytes p) blanks within ∙ regroup p (drop (length (front-bytes p)) image′))
-      ∙ kept-any p (p .header) (drop (length (front-bytes p)) image′) (p .header-size)
+      ap (λ (plan : List Unit4). run plan image) (take-append-le n us (marks ++ full) h)
+      ∙ ap (run done) (p .split ∙ sym (regroup p blanks))
+      ∙ run-past (front-bytes p) blanks within
+      ∙ regroup p (drop (length (front-bytes p)) (run done (front-bytes p ++ blanks)))
+
+  -- so the earlier items are kept
+  pub kept-before : (n : ℕ) → n ≤ length us → keptItems (run (take n plan) image) ≡ items
+  kept-before n h =
+      ap keptItems (image-before n h)
+      ∙ kept-any p (p .header) (drop (length (front-bytes p)) (run (take n us) (front-bytes p ++ replicate (32 * p .spare) 0xFF))) (p .header-size)
 
   entries-laid : chunks (p .spare) (w .laid ++ behind) ≡ entry ∷ new ++ chunks left behind
   entries-laid =
@@ -251,11 +262,11 @@ module _ {image : List ℕ} {items : List Item} (p : Standing image items) {entr
   front′-size : length front′ ≡ start + span
   front′-size = length-append (p .front) (replicate span Written) ∙ ap (λ (n : ℕ). start + n) (length-replicate span Written)
 
-  pub header-after : List ℕ
+  abbrev pub header-after : List ℕ
   header-after = run full (p .header)
 
-  run-plan : run plan image ≡ header-after ++ (markRange Written start span (p .map) ++ ((p .used ++ w .laid) ++ behind))
-  unfolding itemPlan header-after
+  pub run-plan : run plan image ≡ header-after ++ (markRange Written start span (p .map) ++ ((p .used ++ w .laid) ++ behind))
+  unfolding itemPlan
   run-plan =
       let map = markRange Written start span (p .map) in
       let rest = p .used ++ (w .laid ++ behind) in
@@ -290,7 +301,7 @@ module _ {image : List ℕ} {items : List Item} (p : Standing image items) {entr
         front = front′;
         spare = left;
         split = run-plan;
-        header-size = unfold header-after in (length-run full (p .header) ∙ p .header-size);
+        header-size = length-run full (p .header) ∙ p .header-size;
         map-size = length-markRange Written start span (p .map) ∙ p .map-size;
         used-size = omega (arith, length-append (p .used) (w .laid), p .used-size, w .laid-size, front′-size);
         sum = omega (arith, front′-size, p .sum, w .room);
@@ -301,3 +312,15 @@ module _ {image : List ℕ} {items : List Item} (p : Standing image items) {entr
         closed = rw entries′ (closed-append-item (p .closed) (w .whole));
         kept = rw entries′ kept′;
       }
+
+  pub after-header : standing-after .header ≡ header-after
+  unfolding standing-after
+  after-header = refl
+
+  pub after-map : standing-after .map ≡ markRange Written start span (p .map)
+  unfolding standing-after
+  after-map = refl
+
+  pub after-front : standing-after .front ≡ p .front ++ replicate span Written
+  unfolding standing-after
+  after-front = refl

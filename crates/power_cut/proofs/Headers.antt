@@ -116,7 +116,7 @@ word-bytes (bytes-cons {byte = a} ha (bytes-cons {byte = b} hb (bytes-cons {byte
     let ed : d ≡ 0xFF = omega arith in
     rw (ea, eb, ec, ed)
 
-active-word : {header : List ℕ} → Bytes header → length header ≡ 32 → stateOfWord (stateWord header) ≡ Active → take 4 header ≡ stateBytes Active
+pub active-word : {header : List ℕ} → Bytes header → length header ≡ 32 → stateOfWord (stateWord header) ≡ Active → take 4 header ≡ stateBytes Active
 active-word {header} bytes size e = word-bytes bytes (omega arith) (among-active (stateWord header) e)
 
 -- ---- Full, programmed or not
@@ -148,6 +148,14 @@ full-cut {header} q end e = by-test (eqb end 126) q
     by-test true (suc (suc q)) = is-full (full-programmed header e)
     by-test false zero = not-full refl
     by-test false (suc q) = not-full refl
+
+pub full-whole : {header : List ℕ} (end : ℕ) → take 4 header ≡ stateBytes Active → FullOrNot header (run (fullUnits end) header)
+unfolding run units allOnes
+full-whole {header} end e = by-test (eqb end 126)
+  where
+    by-test : (last : Bool) → FullOrNot header (run (cond last (units 0 (stateBytes Full)) []) header)
+    by-test true = is-full (full-programmed header e)
+    by-test false = not-full refl
 
 pub full-drop : {header after : List ℕ} → FullOrNot header after → drop 4 after ≡ drop 4 header
 full-drop (not-full e) = ap (drop 4) e

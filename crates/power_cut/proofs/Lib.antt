@@ -12,3 +12,4 @@ pub mod Headers
 pub mod Accepted
 pub mod Started
 pub mod Held
+pub mod Steps
