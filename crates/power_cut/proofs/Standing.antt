@@ -8,7 +8,7 @@ use mathlib.Core.List.{List, [], _∷_, _++_, append-assoc}
 use Prim.Native.Nat.{ℕ, zero, suc, _+_, _-_, _*_, _≤_}
 use native.Mathlib.Omega.{arith}
 use lib.Dec.{eqb}
-use lib.ListN.{length, take, drop, replicate, replicate-append-replicate, length-append, take-append-drop}
+use lib.ListN.{length, take, drop, replicate, replicate-append-replicate, length-append, length-replicate, take-append-drop}
 use lib.Seq.{take-at, drop-at}
 use borrow.Author.Tests.{eq-eqb}
 use Rattle.flash.specs.Flash.{Unit4, units, run, every, allOnes}
@@ -104,6 +104,11 @@ module _ {image : List ℕ} {items : List Item} (p : Standing image items) where
   pub regroup : (rest : List ℕ) → front-bytes ++ rest ≡ p .header ++ (p .map ++ (p .used ++ rest))
   regroup rest =
       append-assoc (p .header) (p .map ++ p .used) rest ∙ ap (λ (tail : List ℕ). p .header ++ tail) (append-assoc (p .map) (p .used) rest)
+
+  pub standing-size : length image ≡ 4096
+  standing-size =
+      ap length (p .split ∙ sym (regroup blanks))
+      ∙ omega (arith, length-append front-bytes blanks, front-size, length-replicate {A = ℕ} (32 * p .spare) 0xFF, p .sum)
 
   -- the first n blank entries, and the others
   pub blank-parts : (n : ℕ) → n ≤ p .spare → image ≡ front-bytes ++ (replicate (32 * n) 0xFF ++ replicate (32 * (p .spare - n)) 0xFF)

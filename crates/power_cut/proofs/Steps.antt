@@ -17,7 +17,7 @@ use Rattle.flash.specs.Flash.{Unit4, run}
 use Rattle.flash.proofs.Laws.{Bytes, bytes-take, length-run}
 use Rattle.page.specs.declared.ThinPage.{ThinPage}
 use Rattle.page.specs.Record.{nextFree, uninitialized, withItem}
-use Rattle.page.specs.Writing.{badImage, badRecord, notActive, overFree, itemPlan, stops}
+use Rattle.page.specs.Writing.{badImage, badRecord, fullUnits, stops}
 use Rattle.page.proofs.Checks.{accepted-head, accepted-tail}
 use Rattle.sector.specs.declared.Answer.the-variants.{Done, BadImage, BadRecord, WrongState, Stopped}
 use Rattle.sector.specs.declared.PageState.the-variants.{Active}
@@ -30,8 +30,8 @@ use Rattle.opening.specs.Reading.{Item, item}
 use Rattle.opening.specs.Opening.{headerVerdictOf, keptItems, opening}
 use Rattle.power_cut.specs.History.{Write, a-single, a-variable, a-copy, outcomeOf, imageOf, entriesOfWrite, entryUnits, newItem}
 use Rattle.power_cut.specs.PowerCut.{Begins}
-use Rattle.power_cut.proofs.Standing.{Standing, front-bytes}
-use Rattle.power_cut.proofs.Begun.{Lays, marks, plan, headerAt, restAt, image-before, image-after, headerAt-size, kept-before, kept-after, header-after, run-plan, standing-after}
+use Rattle.power_cut.proofs.Standing.{Standing, standing-size, front-bytes}
+use Rattle.power_cut.proofs.Begun.{Lays, marks, plan, headerAt, restAt, image-before, image-after, headerAt-size, kept-before, kept-after, header-after, run-plan, standing-after, after-header, after-map, after-front}
 use Rattle.power_cut.proofs.AtHand.{pageOf, with-item}
 use Rattle.power_cut.proofs.Headers.{HeaderOpens, opens-of, header-opens, image-opens, active-word, FullOrNot, full-cut, full-whole, full-drop, full-opens, full-state}
 use Rattle.power_cut.proofs.Accepted.{begins-accepted}
@@ -98,3 +98,44 @@ module _ {image : List ℕ} {items : List Item} (p : Standing image items) (open
             let q = n - length us - length (marks p (s .lays)) in
             opens-split (headerAt p (s .lays) n) (restAt p (s .lays) n) (image-after p (s .lays) n more) (headerAt-size p (s .lays) n)
             (full-opens header-opens-here (full-cut q (start p + suc (length (s .new))) word))
+
+    -- the new item, at its index
+    new-is : newItem write (page p) ≡ item (start p) (s .entry ∷ s .new)
+    new-is = ap₂ item (next-is p) (s .entries-is)
+
+    pub cut-opens : opening (imageOf write image (page p) n) .answer ≡ Done
+    unfolding opening
+    cut-opens =
+        let cut = run (take n (plan p (s .lays))) image in
+        let size : length cut ≡ 4096 = length-run (take n (plan p (s .lays))) image ∙ standing-size p in
+        rw (s .image-is, eq-eqb (length cut) 4096 size, opens-of cut opens-cut)
+
+    pub cut-kept : keptItems (imageOf write image (page p) n) ≡ cond (leb n (length us)) items (items ++ (newItem write (page p) ∷ []))
+    cut-kept = ap keptItems (s .image-is) ∙ by-order (decLe n (length us))
+      where
+        by-order : Dec (n ≤ length us) → keptItems (run (take n (plan p (s .lays))) image) ≡ cond (leb n (length us)) items (items ++ (newItem write (page p) ∷ []))
+        by-order (yes h) = rw (le-leb n (length us) h) (kept-before p (s .lays) n h)
+        by-order (no h) =
+            let more : length us < n = omega arith in
+            rw (lt-leb n (length us) more) (kept-after p (s .lays) n more ∙ ap (λ (new : Item). items ++ (new ∷ [])) (sym new-is))
+
+    -- ---- done
+
+    pub done-held : outcomeOf write image (page p) n .answer ≡ Done
+        → Held (imageOf write image (page p) n) (outcomeOf write image (page p) n .page) (items ++ (newItem write (page p) ∷ []))
+    done-held d =
+        let span = suc (length (s .new)) in
+        let after = standing-after p (s .lays) in
+        let end = start p + span in
+        let full = full-whole end word in
+        rw (s .done d .0, s .done d .1, new-is)
+        (record {
+          standing = after;
+          opens =
+              opens-split (header-after p (s .lays)) _ (run-plan p (s .lays)) (length-run (fullUnits end) (p .header) ∙ p .header-size)
+              (full-opens header-opens-here full);
+          page-is =
+              with-item (p .header) (header-after p (s .lays)) (p .map) (p .front) items (s .entry) (s .new) span (counted (p .closed))
+              (full-state (p .header) end word) (full-drop full) (s .short)
+              ∙ rw (after-header p (s .lays), after-map p (s .lays), after-front p (s .lays));
+        })
