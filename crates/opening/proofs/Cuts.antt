@@ -35,14 +35,14 @@ keptFrom-empties (suc n) i (entry ∷ any) = keptFrom-empties n (suc i) any
 -- blank entries stay free
 pub isFreeTail-blanks : (blanks : Entries) → every allOnes blanks ≡ true → isFreeTail (replicate (length blanks) Empty) blanks ≡ true
 isFreeTail-blanks [] e = refl
-isFreeTail-blanks (entry ∷ blanks) e = let both = and-eq-true-iff (allOnes entry) (every allOnes blanks) .0 e in rw (both .0) (isFreeTail-blanks blanks (both .1))
+isFreeTail-blanks (entry ∷ blanks) e = let parts = and-eq-true-iff (allOnes entry) (every allOnes blanks) .0 e in rw (parts .0) (isFreeTail-blanks blanks (parts .1))
 
 shutBeforeTail-blanks : (blanks : Entries) → every allOnes blanks ≡ true
     → shutBeforeTail (replicate (length blanks) Empty) blanks ≡ replicate (length blanks) Empty
 shutBeforeTail-blanks [] e = refl
 shutBeforeTail-blanks (entry ∷ blanks) e =
-    let both = and-eq-true-iff (allOnes entry) (every allOnes blanks) .0 e in
-    rw (both .0, isFreeTail-blanks blanks (both .1)) (ap (λ (states : States). Empty ∷ states) (shutBeforeTail-blanks blanks (both .1)))
+    let parts = and-eq-true-iff (allOnes entry) (every allOnes blanks) .0 e in
+    rw (parts .0, isFreeTail-blanks blanks (parts .1)) (ap (λ (states : States). Empty ∷ states) (shutBeforeTail-blanks blanks (parts .1)))
 
 pub openedStates-blanks : (blanks : Entries) → every allOnes blanks ≡ true
     → openedStates (replicate (length blanks) Empty) blanks ≡ replicate (length blanks) Empty
@@ -72,7 +72,7 @@ module _ (entry : List ℕ) (blanks : Entries) (used : allOnes entry ≡ false) 
 usable-mixed : (mixed rest : States) → every isUsable mixed ≡ true → usable (length mixed) (mixed ++ rest) ≡ true
 usable-mixed [] rest e = refl
 usable-mixed (s ∷ mixed) rest e =
-    let both = and-eq-true-iff (isUsable s) (every isUsable mixed) .0 e in rw (both .0) (usable-mixed mixed rest (both .1))
+    let parts = and-eq-true-iff (isUsable s) (every isUsable mixed) .0 e in rw (parts .0) (usable-mixed mixed rest (parts .1))
 
 walk-mixed : (mixed rest : States) (new others : Entries) → length mixed ≡ length new
     → walk (length new) Written (mixed ++ rest) (new ++ others) ≡ replicate (length new) Written ++ walk zero Erased rest others

@@ -1,19 +1,22 @@
--- An item that the reading keeps in a closed front: where it lies, and what erasing it leaves.
+-- An item that the reading keeps: where it lies in a closed front, what erasing it leaves, and that it is whole on any page.
 --
--- In order: the entries that a header covers; the place of a kept item; the item erased. Assumes nothing.
+-- In order: the entries that a header covers; the place of a kept item; the item erased; the indices of kept items; kept items of any page.
+-- Assumes nothing.
 use mathlib.Core.Path.{_≡_, refl, sym, ap, _∙_}
-use mathlib.Core.List.{List, [], _∷_, _++_}
-use Prim.Native.Nat.{ℕ, zero, suc, _≤_, _+_}
-use native.Mathlib.Nat.{zero-add, add-zero, add-suc, suc-add}
+use mathlib.Core.List.{List, [], _∷_, _++_, List·Memᴰ, List·Memᴰ·head, List·Memᴰ·tail}
+use Prim.Native.Nat.{ℕ, zero, suc, _≤_, _<_, _+_}
+use native.Mathlib.Nat.{le-refl, zero-add, add-zero, add-suc, suc-add}
 use native.Mathlib.Omega.{arith}
-use lib.ListN.{length, take, drop, replicate, length-append, length-replicate, take-append-drop}
-use lib.Seq.{take-append-le, length-take-le, drop-at}
+use lib.ListN.{length, take, drop, replicate, length-append, length-replicate, length-drop, take-append-drop}
+use lib.Seq.{take-append-le, length-take-le, take-take, take-at, drop-at, drop-append-le}
 use Rattle.sector.specs.declared.EntryMapState.{EntryMapState}
 use Rattle.sector.specs.declared.EntryMapState.the-variants.{Written, Erased}
 use Rattle.sector.proofs.Marks.{marked, marked-at, marked-erased}
-use Rattle.opening.specs.Reading.{Item, item, keptFrom}
-use Rattle.opening.proofs.Verdicts.{States, Entries, Whole, whole-fits, whole-front, verdict-keptItem}
-use Rattle.opening.proofs.Closed.{Closed, closed-nil, closed-erased, closed-header, closed-covered, closed-fits, good-closed, closed-append, keptFrom-closed}
+use Rattle.opening.specs.Reading.{Verdict, NotAnItem, RefusedEntry, RefusedItem, Kept, verdictAt, stepsOver, Item, item, withKept, keptFrom}
+use Rattle.opening.proofs.Verdicts.{States, Entries, Whole, whole-fits, whole-elsewhere, whole-front, verdict-keptItem}
+use Rattle.opening.proofs.Closed.{Closed, closed-nil, closed-erased, closed-header, closed-covered, length-closed, closed-fits, good-closed, closed-append, keptFrom-closed}
+use Rattle.opening.proofs.Reopened.{kept-openedStates}
+use Rattle.opening.proofs.OpenedFront.{Opened, opened, kept-opened}
 
 -- ---- the entries that a header covers
 
@@ -49,7 +52,10 @@ pub record Place (k i j : ℕ) (group : Entries) (before after : List Item) (fro
   pub states-split : front ≡ ahead ++ (replicate (length group) Written ++ rest)
   pub entries-split : bytes ≡ bytes-ahead ++ (group ++ bytes-rest)
   pub index : j ≡ i + length ahead
-  pub some-entries : 1 ≤ length group
+  pub header : List ℕ
+  pub new : Entries
+  pub header-first : group ≡ header ∷ new
+  pub whole : Whole header (length new) new
   pub closed-ahead : Closed k ahead bytes-ahead
   pub closed-rest : Closed zero rest bytes-rest
   pub kept-ahead : keptFrom k i ahead bytes-ahead ≡ before
@@ -77,7 +83,10 @@ further {i = i} s entry earlier p c e =
       states-split = ap (λ (states : States). s ∷ states) (p .states-split);
       entries-split = ap (λ (entries : Entries). entry ∷ entries) (p .entries-split);
       index = p .index ∙ omega arith;
-      some-entries = p .some-entries;
+      header = p .header;
+      new = p .new;
+      header-first = p .header-first;
+      whole = p .whole;
       closed-ahead = c;
       closed-rest = p .closed-rest;
       kept-ahead = e;
@@ -98,7 +107,10 @@ here {k} {entry} {states} {entries} i w c =
       states-split = rw long (ap (λ (states : States). Written ∷ states) (b .split));
       entries-split = ap (λ (entries : Entries). entry ∷ entries) (sym (take-append-drop k entries));
       index = sym (add-zero i);
-      some-entries = omega arith;
+      header = entry;
+      new = take k entries;
+      header-first = refl;
+      whole = rw long (whole-elsewhere w (omega (arith, long)) (take-take k k entries (le-refl k)));
       closed-ahead = closed-nil;
       closed-rest = b .closed;
       kept-ahead = refl;
@@ -199,3 +211,94 @@ module _ {j : ℕ} {group : Entries} {before after : List Item} {front : States}
         ← p .index,
         p .kept-rest,
       )
+
+  -- the item lies in the front
+  pub place-fits : j + length group ≤ length front
+  place-fits =
+      rw (p .states-split, length-append (p .ahead) (replicate (length group) Written ++ p .rest), length-append (replicate (length group) Written) (p .rest), length-replicate (length group) Written)
+      (omega (arith, p .index))
+
+  -- and its bytes are the front's from its index on
+  pub place-bytes : take (length group) (drop j bytes) ≡ group
+  place-bytes =
+      rw (p .entries-split, p .index, zero-add, length-closed (p .closed-ahead), drop-at (p .bytes-ahead) (group ++ p .bytes-rest) (length (p .bytes-ahead)) refl)
+      (take-at group (p .bytes-rest) (length group) refl)
+
+-- ---- the indices of kept items
+
+-- all of them from one bound up to another
+pub data Indices (low high : ℕ) : List Item → Type 0 where
+  indices-nil : Indices low high []
+  indices-cons : {items : List Item} (i : ℕ) (entries : Entries) → low ≤ i → i < high → Indices low high items → Indices low high (item i entries ∷ items)
+
+indices-wider : {low high lower higher : ℕ} {items : List Item} → lower ≤ low → high ≤ higher → Indices low high items → Indices lower higher items
+indices-wider l h indices-nil = indices-nil
+indices-wider l h (indices-cons i entries g f d) = indices-cons i entries (omega arith) (omega arith) (indices-wider l h d)
+
+indices-withKept : {low high : ℕ} {items : List Item} (verdict : Verdict) (i : ℕ) (entry : List ℕ) (entries : Entries) → low ≤ i → i < high → Indices low high items
+    → Indices low high (withKept verdict i entry entries items)
+indices-withKept NotAnItem i entry entries l h d = d
+indices-withKept (RefusedEntry reason) i entry entries l h d = d
+indices-withKept (RefusedItem reason k) i entry entries l h d = d
+indices-withKept (Kept k) i entry entries l h d = indices-cons i (entry ∷ take k entries) l h d
+
+pub indices-keptFrom : (k i : ℕ) (states : States) (entries : Entries) → Indices i (i + length states) (keptFrom k i states entries)
+indices-keptFrom k i [] entries = indices-nil
+indices-keptFrom k i (s ∷ states) [] = indices-nil
+indices-keptFrom zero i (s ∷ states) (entry ∷ entries) =
+    let verdict = verdictAt s entry states entries in
+    let rest = indices-keptFrom (stepsOver verdict) (suc i) states entries in
+    indices-withKept verdict i entry entries (omega arith) (omega arith) (indices-wider (omega arith) (omega arith) rest)
+indices-keptFrom (suc k) i (s ∷ states) (entry ∷ entries) = indices-wider (omega arith) (omega arith) (indices-keptFrom k (suc i) states entries)
+
+-- the items before one have smaller indices, and those behind it greater ones
+pub indices-before : {j : ℕ} {group : Entries} {before after : List Item} {front : States} {bytes : Entries} → Place zero zero j group before after front bytes
+    → Indices zero j before
+indices-before p = rw (← p .kept-ahead, p .index) (indices-keptFrom zero zero (p .ahead) (p .bytes-ahead))
+
+pub indices-after : {j : ℕ} {group : Entries} {before after : List Item} {front : States} {bytes : Entries} (p : Place zero zero j group before after front bytes)
+    → Indices (j + length group) (j + length group + length (p .rest)) after
+indices-after {j} {group} p = rw (← p .kept-rest) (indices-keptFrom zero (j + length group) (p .rest) (p .bytes-rest))
+
+-- ---- kept items of any page
+
+-- an item of a list, and those before it and behind it
+pub member-split : {x : Item} {items : List Item} → List·Memᴰ x items → (before : List Item) × (after : List Item) × (items ≡ before ++ (x ∷ after))
+member-split (List·Memᴰ·head {xs = xs} e) = ([], xs, ap (λ (y : Item). y ∷ xs) (sym e))
+member-split (List·Memᴰ·tail {x = y} m) =
+    let split = member-split m in (y ∷ split .0, split .1, ap (λ (items : List Item). y ∷ items) (split .2))
+
+-- the item is whole, and its bytes are the page's from its index on
+pub record WholeAt (j : ℕ) (group : Entries) (entries : Entries) : Type 0 where
+  pub header : List ℕ
+  pub new : Entries
+  pub header-first : group ≡ header ∷ new
+  pub whole : Whole header (length new) new
+  pub fits : j + length group ≤ length entries
+  pub bytes : take (length group) (drop j entries) ≡ group
+
+wholeAt-opened : {j : ℕ} {group : Entries} {before after : List Item} {states : States} {entries : Entries} (o : Opened states entries)
+    → Place zero zero j group before after (o .front) (o .bytes) → WholeAt j group entries
+wholeAt-opened {j} {group} o p =
+    let fits : j + length group ≤ length (o .bytes) = rw (← length-closed (o .closed)) (place-fits p) in
+    record {
+      header = p .header;
+      new = p .new;
+      header-first = p .header-first;
+      whole = p .whole;
+      fits = rw (o .entries-split, length-append (o .bytes) (o .blanks)) (omega arith);
+      bytes =
+          rw (
+            o .entries-split,
+            drop-append-le j (o .bytes) (o .blanks) (omega arith),
+            take-append-le (length group) (drop j (o .bytes)) (o .blanks) (rw length-drop (omega arith)),
+          )
+          (place-bytes p);
+    }
+
+pub kept-whole : {j : ℕ} {group : Entries} (states : States) (entries : Entries) → length states ≡ length entries
+    → List·Memᴰ (item j group) (keptFrom zero zero states entries) → WholeAt j group entries
+kept-whole {j} {group} states entries l m =
+    let split = member-split m in
+    let o = opened states entries l in
+    wholeAt-opened o (place zero j group (split .0) (split .1) (o .closed) (sym (kept-opened o) ∙ kept-openedStates zero states entries l ∙ split .2))

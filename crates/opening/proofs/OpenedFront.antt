@@ -13,26 +13,26 @@ use Rattle.sector.specs.declared.EntryMapState.{EntryMapState}
 use Rattle.sector.specs.declared.EntryMapState.the-variants.{Empty, Written, Erased, Illegal}
 use Rattle.sector.specs.Map.{sameState, countIn}
 use Rattle.sector.proofs.Marks.{countIn-append}
-use Rattle.opening.specs.Reading.{walk, isEmpty, isFreeTail, shut, shutBeforeTail, openedStates}
+use Rattle.opening.specs.Reading.{walk, keptFrom, isEmpty, isFreeTail, shut, shutBeforeTail, openedStates}
 use Rattle.opening.proofs.Verdicts.{States, Entries, Whole, whole-front, verdict-refusedItem, verdict-keptItem}
 use Rattle.opening.proofs.Course.{Course, ends, meetsEmpty, meetsErased, meetsIllegal, refusesEntry, refusesItem, keepsItem, erasesBehind, keepsBehind, goesOn, course}
 use Rattle.opening.proofs.Midway.{walk-zero}
 use Rattle.opening.proofs.Reopened.{openedFrom, again, length-openedStates}
 use Rattle.opening.proofs.Closed.{Closed, closed-nil, closed-erased, closed-header, closed-covered, closed-fits, length-closed}
-use Rattle.opening.proofs.Cuts.{openedStates-unmarked-blank}
+use Rattle.opening.proofs.Cuts.{kept-unmarked, openedStates-unmarked-blank}
 
 -- ---- front and tail
 
 -- k covered entries and a closed front, then the free tail
-pub record FrontAndTail (k : ℕ) (states : States) (entries : Entries) : Type 0 where
-  pub front : States
-  pub tail : States
-  pub bytes : Entries
-  pub blanks : Entries
-  pub states-split : states ≡ front ++ tail
-  pub entries-split : entries ≡ bytes ++ blanks
-  pub closed : Closed k front bytes
-  pub free : isFreeTail tail blanks ≡ true
+record FrontAndTail (k : ℕ) (states : States) (entries : Entries) : Type 0 where
+  front : States
+  tail : States
+  bytes : Entries
+  blanks : Entries
+  states-split : states ≡ front ++ tail
+  entries-split : entries ≡ bytes ++ blanks
+  closed : Closed k front bytes
+  free : isFreeTail tail blanks ≡ true
 
 only-tail : {states : States} {entries : Entries} → isFreeTail states entries ≡ true → FrontAndTail zero states entries
 only-tail {states} {entries} e =
@@ -165,6 +165,11 @@ opened states entries l = opened-front (length-openedStates states entries ∙ l
 -- opening leaves an opened page as it is
 pub openedStates-opened : {states : States} {entries : Entries} → Opened states entries → openedStates states entries ≡ states
 openedStates-opened o = rw (o .states-split, o .entries-split) (openedStates-unmarked-blank (o .closed) (o .blanks) (o .blank))
+
+-- and keeps the items of its front
+pub kept-opened : {states : States} {entries : Entries} (o : Opened states entries)
+    → keptFrom zero zero states entries ≡ keptFrom zero zero (o .front) (o .bytes)
+kept-opened o = rw (o .states-split, o .entries-split) (kept-unmarked (o .closed) (length (o .blanks)) (o .blanks))
 
 -- ---- the counts
 

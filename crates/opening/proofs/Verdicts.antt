@@ -6,16 +6,16 @@ use mathlib.Core.Path.{_≡_, refl, _∙_}
 use mathlib.Core.Bool.{Bool, true, false, _||_, not}
 use mathlib.Core.List.{List, [], _∷_, _++_}
 use mathlib.Core.Option.{Option, none, some}
-use Prim.Native.Nat.{ℕ, _≤_}
+use Prim.Native.Nat.{ℕ, zero, suc, _≤_}
 use native.Mathlib.Omega.{arith}
 use lib.Dec.{eqb, ltb}
 use lib.ListN.{length, take, length-append}
 use lib.Seq.{take-append-le}
-use borrow.Author.Tests.{ltb-false, le-ltb}
+use borrow.Author.Tests.{eqb-false, ltb-false, le-ltb, not-false}
 use Rattle.flash.specs.Flash.{allOnes}
 use Rattle.sector.specs.declared.EntryMapState.{EntryMapState}
 use Rattle.sector.specs.declared.EntryMapState.the-variants.{Written}
-use Rattle.sector.specs.Item.{crcRight}
+use Rattle.sector.specs.Item.{crcRight, loads}
 use Rattle.sector.specs.Layout.{spanOf}
 use Rattle.opening.specs.Reading.{Reason, AllOnes, CrcWrong, SpanOffPage, WrongSpan, CoveredNotUsable, firstRule, covered, wrongSpan, headerRefusal, payloadRefusal, usable, RefusedEntry, RefusedItem, Kept, itemVerdict, verdictAt}
 
@@ -28,25 +28,43 @@ Entries = List (List ℕ)
 
 -- ---- the rules of the header
 
-third-rule : (a b c d e : Bool) → firstRule ((a, AllOnes) ∷ (b, CrcWrong) ∷ (c || d, SpanOffPage) ∷ (e, WrongSpan) ∷ []) ≡ none → d ≡ false
-third-rule true b c d e h = cc
-third-rule false true c d e h = cc
-third-rule false false true d e h = cc
-third-rule false false false true e h = cc
-third-rule false false false false e h = refl
+no-rule : (a b c d e : Bool) → firstRule ((a, AllOnes) ∷ (b, CrcWrong) ∷ (c || d, SpanOffPage) ∷ (e, WrongSpan) ∷ []) ≡ none
+    → (a ≡ false) × (b ≡ false) × (c ≡ false) × (d ≡ false) × (e ≡ false)
+no-rule true b c d e h = (cc, cc, cc, cc, cc)
+no-rule false true c d e h = (cc, cc, cc, cc, cc)
+no-rule false false true d e h = (cc, cc, cc, cc, cc)
+no-rule false false false true e h = (cc, cc, cc, cc, cc)
+no-rule false false false false true h = (cc, cc, cc, cc, cc)
+no-rule false false false false false h = (refl, refl, refl, refl, refl)
 
--- a header that no rule refuses has its span on the page
-pub header-fits : (entry : List ℕ) (left : ℕ) → headerRefusal entry left ≡ none → covered entry ≤ left
+-- none of the rules holds of a header that none refuses
+header-rules : (entry : List ℕ) (left : ℕ) → headerRefusal entry left ≡ none
+    → (allOnes entry ≡ false) × (not (crcRight entry) ≡ false) × (eqb (spanOf entry) 0 ≡ false) × (ltb left (covered entry) ≡ false) × (wrongSpan entry ≡ false)
 unfolding headerRefusal
-header-fits entry left h =
-    ltb-false left (covered entry)
-    (third-rule (allOnes entry) (not (crcRight entry)) (eqb (spanOf entry) 0) (ltb left (covered entry)) (wrongSpan entry) h)
+header-rules entry left h = no-rule (allOnes entry) (not (crcRight entry)) (eqb (spanOf entry) 0) (ltb left (covered entry)) (wrongSpan entry) h
+
+-- it loads
+pub header-loads : (entry : List ℕ) (left : ℕ) → headerRefusal entry left ≡ none → loads entry ≡ true
+unfolding loads
+header-loads entry left h = let rules = header-rules entry left h in rw (rules .0, not-false (crcRight entry) (rules .1))
+
+-- it has a span
+pub header-span : (entry : List ℕ) (left : ℕ) → headerRefusal entry left ≡ none → 1 ≤ spanOf entry
+header-span entry left h = by (spanOf entry) (eqb-false (spanOf entry) 0 (header-rules entry left h .2))
+  where
+    by : (span : ℕ) → (span ≡ 0 → ⊥) → 1 ≤ span
+    by zero f = absurd (f refl)
+    by (suc n) f = omega arith
+
+-- and the span is on the page
+pub header-fits : (entry : List ℕ) (left : ℕ) → headerRefusal entry left ≡ none → covered entry ≤ left
+header-fits entry left h = ltb-false left (covered entry) (header-rules entry left h .3)
 
 header-same : (entry : List ℕ) (left other : ℕ) → covered entry ≤ left → covered entry ≤ other → headerRefusal entry other ≡ headerRefusal entry left
 unfolding headerRefusal
 header-same entry left other h k = rw (le-ltb left (covered entry) h, le-ltb other (covered entry) k)
 
--- and stands wherever as many entries lie behind it
+-- it stands wherever as many entries lie behind it
 pub header-elsewhere : (entry : List ℕ) (left other : ℕ) → headerRefusal entry left ≡ none → covered entry ≤ other → headerRefusal entry other ≡ none
 header-elsewhere entry left other h k = header-same entry left other (header-fits entry left h) k ∙ h
 
@@ -60,6 +78,9 @@ pub record Whole (entry : List ℕ) (k : ℕ) (entries : Entries) : Type 0 where
 
 pub whole-fits : {entry : List ℕ} {k : ℕ} {entries : Entries} → Whole entry k entries → k ≤ length entries
 whole-fits {entry} {k} {entries} w = omega (arith, header-fits entry (length entries) (w .header), w .span)
+
+pub whole-span : {entry : List ℕ} {k : ℕ} {entries : Entries} → Whole entry k entries → spanOf entry ≡ suc k
+whole-span {entry} {k} {entries} w = omega (arith, header-span entry (length entries) (w .header), w .span)
 
 -- it is whole with the same covered entries, whatever lies behind them
 pub whole-elsewhere : {entry : List ℕ} {k : ℕ} {entries others : Entries} → Whole entry k entries → k ≤ length others

@@ -13,3 +13,4 @@ pub mod Accepted
 pub mod Started
 pub mod Held
 pub mod Steps
+pub mod Erasing
