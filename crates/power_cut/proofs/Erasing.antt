@@ -100,10 +100,10 @@ module _ {image : List ℕ} {items : List Item} (p : Standing image items) (j : 
   here : Place zero zero j group before after (p .front) (chunks (length (p .front)) (p .used))
   here = place zero j group before after (p .closed) (p .kept ∙ items-are)
 
-  some : 1 ≤ n
+  pub some : 1 ≤ n
   some = omega (arith, ap length (here .header-first))
 
-  fits : j + n ≤ length (p .front)
+  pub fits : j + n ≤ length (p .front)
   fits = place-fits here
 
   abbrev front′ : States
@@ -162,9 +162,9 @@ module _ {image : List ℕ} {items : List Item} (p : Standing image items) (j : 
   written-count : countIn Written front′ + n ≡ countIn Written (p .front)
   written-count =
       let written : take n (drop j (p .front)) ≡ replicate n Written =
-          ap₂ (λ (i : ℕ) (states : States). take n (drop i states)) (here .index ∙ zero-add (length (here .ahead))) (here .states-split)
-          ∙ ap (take n) (drop-at (here .ahead) (replicate n Written ++ here .rest) (length (here .ahead)) refl)
-          ∙ take-at (replicate n Written) (here .rest) n (length-replicate n Written) in
+      ap₂ (λ (i : ℕ) (states : States). take n (drop i states)) (here .index ∙ zero-add (length (here .ahead))) (here .states-split)
+      ∙ ap (take n) (drop-at (here .ahead) (replicate n Written ++ here .rest) (length (here .ahead)) refl)
+      ∙ take-at (replicate n Written) (here .rest) n (length-replicate n Written) in
       countIn-erased j n (p .front) fits (ap (every (sameState Written)) written ∙ all-written n)
 
   counts : (countIn Written (p .front) - n ≡ countIn Written front′) × (countIn Erased (p .front) + n ≡ countIn Erased front′)

@@ -96,7 +96,7 @@ module _ (image : List ℕ) (sector : Sector image) (opens : headerVerdictOf ima
       }
 
 -- an erased page keeps nothing
-blank-kept : keptItems (replicate 4096 0xFF) ≡ []
+pub blank-kept : keptItems (replicate 4096 0xFF) ≡ []
 unfolding keptItems
 blank-kept = keptFrom-empties 126 0 (entriesOf (replicate 4096 0xFF))
 

@@ -14,3 +14,4 @@ pub mod Started
 pub mod Held
 pub mod Steps
 pub mod Erasing
+pub mod Demand

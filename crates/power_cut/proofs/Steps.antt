@@ -64,7 +64,7 @@ blank-refuses (a-copy source index entries kept) image n b =
 
 -- ---- the header of a write
 
-opens-split : {image : List ℕ} (header rest : List ℕ) → image ≡ header ++ rest → length header ≡ 32 → HeaderOpens header → HeaderOpens image
+pub opens-split : {image : List ℕ} (header rest : List ℕ) → image ≡ header ++ rest → length header ≡ 32 → HeaderOpens header → HeaderOpens image
 opens-split header rest e size o = subst HeaderOpens (sym e) (image-opens header rest size o)
 
 module _ {image : List ℕ} {items : List Item} (p : Standing image items) (opens : HeaderOpens image) where
