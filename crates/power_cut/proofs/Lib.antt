@@ -15,3 +15,4 @@ pub mod Held
 pub mod Steps
 pub mod Erasing
 pub mod Demand
+pub mod OpeningCut

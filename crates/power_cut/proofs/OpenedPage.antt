@@ -1,9 +1,9 @@
 -- What opening leaves of a sector that opens: its header and entries, the map of the reading, and so a page that stands.
 --
--- In order: both passes only clear bits; the image after opening; the page that stands there.
+-- In order: entries that are all 0xFF; both passes only clear bits; the image after opening; the page that stands there.
 -- Assumes nothing.
 use mathlib.Core.Path.{_≡_, refl, sym, ap, ap₂, _∙_, subst}
-use mathlib.Core.Bool.{Bool, true, false, _&&_, not, cond, and-eq-true-iff}
+use mathlib.Core.Bool.{true, and-eq-true-iff}
 use mathlib.Core.List.{List, [], _∷_, _++_, append-assoc}
 use Prim.Native.Nat.{ℕ, zero, suc, _+_, _-_, _*_, _≤_}
 use native.Mathlib.Nat.{suc-inj, suc-ne-zero}
@@ -13,53 +13,22 @@ use lib.Seq.{take-at, drop-at, length-take-le, drop-drop}
 use Rattle.flash.specs.Flash.{Unit4, run, every, allOnes}
 use Rattle.flash.proofs.Laws.{Bytes, bytes-take, bytes-drop, bytes-append, bytes-run, OnlyClears, length-clears, replicate-all-ones, run-append, length-run}
 use Rattle.sector.specs.declared.EntryMapState.{EntryMapState}
-use Rattle.sector.specs.declared.EntryMapState.the-variants.{Empty, Written, Erased, Illegal}
+use Rattle.sector.specs.declared.EntryMapState.the-variants.{Empty}
 use Rattle.sector.specs.Layout.{chunks, entriesOf, mapOf}
-use Rattle.sector.specs.Map.{unpack, pack, statesOf, sameState}
+use Rattle.sector.specs.Map.{unpack, pack, statesOf}
 use Rattle.sector.proofs.Laws.{length-statesOf, length-unpack}
-use Rattle.sector.proofs.Marks.{both, both-self, both-erased, StatesClear, states-nil, states-cons, states-refl, states-append, clears-pack, pack-unpack, unpack-pack, length-pack, bytes-pack, image-parts, mapOf-parts, entries-parts}
+use Rattle.sector.proofs.Marks.{states-refl, states-append, clears-pack, pack-unpack, unpack-pack, length-pack, bytes-pack, image-parts, mapOf-parts, entries-parts}
 use Rattle.opening.specs.Reading.{Item, keptFrom, openedStates}
-use Rattle.opening.specs.Opening.{keptItems, openedMap, refusedHeaders, upperCleared, firstPass, firstMap, changedUnits, openingPlan}
+use Rattle.opening.specs.Opening.{keptItems, openedMap, firstMap, changedUnits, openingPlan}
 use Rattle.opening.proofs.Verdicts.{States, Entries}
 use Rattle.opening.proofs.Closed.{Closed, length-closed}
-use Rattle.opening.proofs.Reopened.{length-openedStates, kept-openedStates, clears-openedStates}
+use Rattle.opening.proofs.Reopened.{length-openedStates, kept-openedStates}
+use Rattle.opening.proofs.TwoPasses.{clears-firstStates, clears-secondPass}
 use Rattle.opening.proofs.OpenedFront.{Opened, opened}
 use Rattle.opening.proofs.Cuts.{kept-unmarked}
 use Rattle.power_cut.proofs.Chunks.{chunks-append, length-chunks, suc-entries}
 use Rattle.power_cut.proofs.MapUnits.{splice-all, run-changed}
 use Rattle.power_cut.proofs.Standing.{Standing}
-
--- ---- both passes only clear bits
-
-upper-clears : (s : EntryMapState) → both s (upperCleared s) ≡ upperCleared s
-upper-clears Empty = refl
-upper-clears Written = refl
-upper-clears Erased = refl
-upper-clears Illegal = refl
-
-one-clears : (s : EntryMapState) (now : Bool) → both s (cond now (upperCleared s) s) ≡ cond now (upperCleared s) s
-one-clears s true = upper-clears s
-one-clears s false = both-self s
-
--- from the states before opening to those of the first pass
-pub clears-first : (states news : States) (headers : List Bool) → StatesClear states (firstPass states news headers)
-clears-first [] news headers = states-nil
-clears-first (s ∷ states) [] headers = states-refl (s ∷ states)
-clears-first (s ∷ states) (new ∷ news) [] = states-refl (s ∷ states)
-clears-first (s ∷ states) (new ∷ news) (header ∷ headers) =
-    states-cons (one-clears s (sameState new Erased && not header)) (clears-first states news headers)
-
-next-clears : (s new : EntryMapState) (header : Bool) → both s new ≡ new → both (cond (sameState new Erased && not header) (upperCleared s) s) new ≡ new
-next-clears s Empty header e = e
-next-clears s Written header e = e
-next-clears s Illegal header e = e
-next-clears s Erased header e = both-erased (cond (not header) (upperCleared s) s)
-
--- and from those to the states that opening leaves
-pub clears-second : {states news : States} (headers : List Bool) → StatesClear states news → StatesClear (firstPass states news headers) news
-clears-second headers states-nil = states-nil
-clears-second [] (states-cons e c) = states-cons e c
-clears-second (header ∷ headers) (states-cons {s} {t} e c) = states-cons (next-clears s t header e) (clears-second headers c)
 
 -- ---- entries that are all 0xFF
 
@@ -105,13 +74,13 @@ module _ (image : List ℕ) (size : length image ≡ 4096) (bytes : Bytes image)
   unfolding firstMap
   map-first =
       subst (λ (before : List ℕ). OnlyClears before (firstMap image)) (sym old-map)
-      (clears-pack (states-append (clears-first states (openedStates states entries) (refusedHeaders zero states entries)) (states-refl (drop 126 (unpack (mapOf image))))))
+      (clears-pack (states-append (clears-firstStates states entries same-size) (states-refl (drop 126 (unpack (mapOf image))))))
 
   pub map-second : OnlyClears (firstMap image) (openedMap image)
   unfolding firstMap openedMap
   map-second =
       clears-pack
-      (states-append (clears-second (refusedHeaders zero states entries) (clears-openedStates states entries same-size)) (states-refl (drop 126 (unpack (mapOf image)))))
+      (states-append (clears-secondPass states entries same-size) (states-refl (drop 126 (unpack (mapOf image)))))
 
   abbrev header : List ℕ
   header = take 32 image

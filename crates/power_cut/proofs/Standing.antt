@@ -22,6 +22,7 @@ use Rattle.opening.specs.Reading.{Item, keptFrom, openedStates}
 use Rattle.opening.specs.Opening.{keptItems, openedMap, refusedHeaders, firstPass, firstMap, sameBytes, mapUnit, changedUnits, openingPlan}
 use Rattle.opening.proofs.Verdicts.{States, Entries}
 use Rattle.opening.proofs.Closed.{Closed}
+use Rattle.opening.proofs.TwoPasses.{firstPass-same}
 use Rattle.opening.proofs.Cuts.{kept-unmarked, openedStates-unmarked-blank}
 use Rattle.power_cut.proofs.Chunks.{chunks-append, length-chunks, suc-entries}
 
@@ -69,15 +70,6 @@ blank-chunks (suc n) =
     (blank-chunks n)
 
 -- ---- what opening makes of it
-
-first-same : (states : States) (headers : List Bool) → firstPass states states headers ≡ states
-first-same [] headers = refl
-first-same (s ∷ states) [] = refl
-first-same (Empty ∷ states) (h ∷ headers) = ap (λ (rest : States). Empty ∷ rest) (first-same states headers)
-first-same (Written ∷ states) (h ∷ headers) = ap (λ (rest : States). Written ∷ rest) (first-same states headers)
-first-same (Illegal ∷ states) (h ∷ headers) = ap (λ (rest : States). Illegal ∷ rest) (first-same states headers)
-first-same (Erased ∷ states) (true ∷ headers) = ap (λ (rest : States). Erased ∷ rest) (first-same states headers)
-first-same (Erased ∷ states) (false ∷ headers) = ap (λ (rest : States). Erased ∷ rest) (first-same states headers)
 
 same-bytes : (bytes : List ℕ) → sameBytes bytes bytes ≡ true
 same-bytes [] = refl
@@ -162,7 +154,7 @@ module _ {image : List ℕ} {items : List Item} (p : Standing image items) where
   standing-firstMap =
       ap (λ (states : States). pack (states ++ drop 126 (unpack (mapOf image))))
       (ap (λ (news : States). firstPass (statesOf (mapOf image)) news (refusedHeaders zero (statesOf (mapOf image)) (entriesOf image))) standing-opened
-      ∙ first-same (statesOf (mapOf image)) (refusedHeaders zero (statesOf (mapOf image)) (entriesOf image)))
+      ∙ firstPass-same (statesOf (mapOf image)) (refusedHeaders zero (statesOf (mapOf image)) (entriesOf image)))
       ∙ whole-map
 
   -- opening has nothing to program
