@@ -10,8 +10,8 @@ use native.Mathlib.Decide.{decLe}
 use native.Mathlib.Nat.{suc-inj}
 use native.Mathlib.Omega.{arith}
 use lib.Dec.{eqb}
-use lib.ListN.{length, take, drop, getD, length-append, length-drop, take-append-drop}
-use lib.Seq.{take-at, length-take-le, getD-take, take-nil, take-all}
+use lib.ListN.{length, take, drop, getD, length-append, length-take, length-drop, take-append-drop}
+use lib.Seq.{take-at, length-take-le, getD-take, take-nil, take-all, take-append-le}
 use borrow.Author.Tests.{eq-eqb}
 use Rattle.flash.specs.Flash.{Unit4, run}
 use Rattle.flash.proofs.Laws.{Bytes, OnlyClears, length-clears, bytes-run, length-run, run-append, run-budget}
@@ -109,8 +109,7 @@ module _ (image : List ℕ) (size : length image ≡ 4096) (bytes : Bytes image)
     unfolding opening openingImage
     opens-same =
         let here = eq-eqb (length cut) 4096 cut-size in
-        let there = eq-eqb (length image) 4096 size in
-        (
+        let there = eq-eqb (length image) 4096 size in (
           rw (here, there, cut-opens, opens) (ap (answered Done) same-page),
           rw (here, there, cut-opens, opens) same-image,
           same-items,
@@ -182,6 +181,105 @@ module _ (image : List ℕ) (size : length image ≡ 4096) (bytes : Bytes image)
       let same : length from ≡ length to = la ∙ sym lb in
       let long : length (unpack a) ≡ length (unpack b) = ap length ea ∙ length-append from behind ∙ ap (λ (n : ℕ). n + length behind) same ∙ sym (ap length eb ∙ length-append to behind) in
       let mixed : Mix (from ++ behind) (to ++ behind) (unpack (splice (4 * u) b a)) =
-          rw (unpack-splice (4 * u) b a, ← ea, ← eb) (mix-take (4 * (4 * u)) (unpack a) (unpack b) long) in
+      rw (unpack-splice (4 * u) b a, ← ea, ← eb) (mix-take (4 * (4 * u)) (unpack a) (unpack b) long) in
       subst (λ (n : ℕ). Mix from to (take n (unpack (splice (4 * u) b a))) × (drop n (unpack (splice (4 * u) b a)) ≡ behind)) la
       (mix-parts from to behind same mixed)
+
+-- ---- the cut
+
+abbrev Same : List ℕ → List ℕ → Type 0
+Same cut image = (opening cut ≡ opening image) × (openingImage cut ≡ openingImage image) × (keptItems cut ≡ keptItems image)
+
+length-splice : (m : ℕ) (a b : List ℕ) → length a ≡ 32 → length b ≡ 32 → length (splice m b a) ≡ 32
+length-splice m a b la lb = omega (arith, length-append (take m b) (drop m a), length-take m b, length-drop m a)
+
+module _ (image : List ℕ) (size : length image ≡ 4096) (bytes : Bytes image) (opens : headerVerdictOf image ≡ Opens) where
+  abbrev head : List ℕ
+  head = take 32 image
+
+  abbrev tail : List ℕ
+  tail = drop 64 image
+
+  head-long : length head ≡ 32
+  head-long = length-take-le 32 image (omega arith)
+
+  first-size : length (firstMap image) ≡ 32
+  first-size = length-clears (map-first image size bytes) ∙ map-long image size bytes
+
+  new-size : length (openedMap image) ≡ 32
+  new-size = length-clears (map-second image size bytes) ∙ first-size
+
+  -- a page in the middle opens as the whole page does
+  middle : (cut mid : List ℕ) → cut ≡ head ++ (mid ++ tail) → length mid ≡ 32 → Bytes cut
+      → CutOpening (old image size bytes) (statesOf mid) (es image size bytes) → drop 126 (unpack mid) ≡ drop 126 (unpack (mapOf image)) → Same cut image
+  middle cut mid e mid-long cut-bytes c spare =
+      subst (λ (x : List ℕ). Same x image) (sym e)
+      (opens-same image size bytes opens mid mid-long
+      (openedStates-cut (same-size image size bytes) c) (keptFrom-cut zero (same-size image size bytes) c) spare (subst Bytes e cut-bytes))
+
+  abbrev first : List Unit4
+  first = changedUnits 0 8 (mapOf image) (firstMap image)
+
+  abbrev second : List Unit4
+  second = changedUnits 0 8 (firstMap image) (openedMap image)
+
+  before : Bytes (head ++ (mapOf image ++ tail))
+  before = subst Bytes (image-parts image) bytes
+
+  after-first : run first image ≡ head ++ (firstMap image ++ tail)
+  after-first =
+      ap (run first) (image-parts image)
+      ∙ run-changed head (mapOf image) (firstMap image) tail head-long (map-long image size bytes) (map-first image size bytes) before 0 8 (omega arith)
+      ∙ ap (λ (map : List ℕ). head ++ (map ++ tail)) (splice-all 32 (map-first image size bytes) (omega (arith, first-size)))
+
+  between : Bytes (head ++ (firstMap image ++ tail))
+  between = subst Bytes after-first (bytes-run first bytes)
+
+  -- in the first pass
+  cut-first : (n : ℕ) → Same (run (take n first) image) image
+  cut-first n =
+      let r = reached head (mapOf image) (firstMap image) tail head-long (map-long image size bytes) (map-first image size bytes) before 0 8 n (omega arith) in
+      let mid = splice (4 * r .unit-at) (firstMap image) (mapOf image) in
+      let parts = spliced image size bytes (r .unit-at) (mapOf image) (firstMap image) (old image size bytes) (firstStates (old image size bytes) (es image size bytes)) (unpack-old image size bytes) (unpack-first image size bytes) (old-long image size bytes) (first-long image size bytes) in
+      middle (run (take n first) image) mid (ap (run (take n first)) (image-parts image) ∙ r .image)
+      (length-splice (4 * r .unit-at) (mapOf image) (firstMap image) (map-long image size bytes) first-size) (bytes-run (take n first) bytes)
+      (in-first (parts .0)) (parts .1)
+
+  -- in the second
+  cut-second : (n : ℕ) → Same (run (take n second) (run first image)) image
+  cut-second n =
+      let r = reached head (firstMap image) (openedMap image) tail head-long first-size (map-second image size bytes) between 0 8 n (omega arith) in
+      let mid = splice (4 * r .unit-at) (openedMap image) (firstMap image) in
+      let parts = spliced image size bytes (r .unit-at) (firstMap image) (openedMap image) (firstStates (old image size bytes) (es image size bytes)) (openedStates (old image size bytes) (es image size bytes)) (unpack-first image size bytes) (unpack-new image size bytes) (first-long image size bytes) (new-long image size bytes) in
+      middle (run (take n second) (run first image)) mid (ap (run (take n second)) after-first ∙ r .image)
+      (length-splice (4 * r .unit-at) (firstMap image) (openedMap image) first-size new-size) (bytes-run (take n second) (bytes-run first bytes))
+      (in-second (parts .0)) (parts .1)
+
+  opens-cut : (n : ℕ) → Same (run (take n (openingPlan image)) image) image
+  unfolding openingPlan
+  opens-cut n = by-order (decLe n (length first))
+    where
+      by-order : Dec (n ≤ length first) → Same (run (take n (first ++ second)) image) image
+      by-order (yes h) = subst (λ (plan : List Unit4). Same (run plan image) image) (sym (take-append-le n first second h)) (cut-first n)
+      by-order (no h) =
+          let more : length first ≤ n = omega arith in
+          subst (λ (cut : List ℕ). Same cut image)
+          (sym (run-budget n first second image ∙ ap (λ (done : List Unit4). run (take (n - length first) second) (run done image)) (take-all n first more)))
+          (cut-second (n - length first))
+
+nothing-done : (n : ℕ) (image : List ℕ) → run (take n []) image ≡ image
+unfolding run
+nothing-done n image = ap (λ (plan : List Unit4). run plan image) (take-nil n)
+
+pub opening-cut : OpeningCut
+opening-cut image n sector = by-verdict (headerVerdictOf image) refl
+  where
+    unchanged : Same (run (take n []) image) image
+    unchanged = subst (λ (cut : List ℕ). Same cut image) (sym (nothing-done n image)) (refl, refl, refl)
+
+    by-verdict : (v : HeaderVerdict) → headerVerdictOf image ≡ v → Same (run (take n (planFor v image)) image) image
+    by-verdict Opens e = opens-cut image (sector .size) (bytes-of image (sector .bytes)) e n
+    by-verdict Blank e = unchanged
+    by-verdict WrongPageState e = unchanged
+    by-verdict WrongVersion e = unchanged
+    by-verdict WrongHeaderCrc e = unchanged
