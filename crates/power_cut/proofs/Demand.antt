@@ -117,7 +117,7 @@ blank-verdict : headerVerdictOf erased-page ≡ Blank
 unfolding headerVerdictOf stateOfWord
 blank-verdict = rw (all-ones-replicate 4096)
 
-blank-opening : opening erased-page ≡ answered Done uninitialized
+pub blank-opening : opening erased-page ≡ answered Done uninitialized
 unfolding opening
 blank-opening = rw blank-verdict
 

@@ -42,7 +42,7 @@ bytes-of (x ∷ bytes) e =
     let both = and-eq-true-iff (ltb x 256) (allBytes bytes) .0 e in
     bytes-cons (ltb-true x 256 (both .0)) (bytes-of bytes (both .1))
 
-bytes-littleEndian : (n x : ℕ) → Bytes (littleEndian n x)
+pub bytes-littleEndian : (n x : ℕ) → Bytes (littleEndian n x)
 bytes-littleEndian zero x = bytes-nil
 bytes-littleEndian (suc n) x = let small : x % 256 < 256 = omega arith in bytes-cons small (bytes-littleEndian n (x / 256))
 

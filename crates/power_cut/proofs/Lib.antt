@@ -16,3 +16,4 @@ pub mod Steps
 pub mod Erasing
 pub mod Demand
 pub mod OpeningCut
+pub mod InitialiseCut
