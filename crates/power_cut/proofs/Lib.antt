@@ -1,4 +1,5 @@
 mod Edges
+mod Example
 pub mod Chunks
 pub mod NewItem
 pub mod Standing
