@@ -56,10 +56,7 @@ fn with_item(listing: Listing, entry: [u8; 32], index: usize) -> Listing
         hash,
         index: index as u8,
     };
-    Listing {
-        len: len + 1,
-        list,
-    }
+    Listing { len: len + 1, list }
 }
 
 // One place more where the verdict at an entry keeps an item.

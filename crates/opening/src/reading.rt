@@ -16,8 +16,11 @@ use sector::map;
 use sector::types;
 
 const ENTRIES_PER_PAGE: usize = 126;
+
 const ENTRY_SIZE: usize = 32;
+
 const ITEMS_OFFSET: usize = 64;
+
 const CRC_START: u32 = 0xFFFFFFFF;
 
 fn is_usable(state: EntryMapState) -> bool

@@ -47,9 +47,9 @@ is-usable-requires c κs = search needs
 -- in a turn: the next entry, and then what is left
 next : (c : tie.After-is-usable Inv-loop μ-loop)
     → let args = c .before .before .before .before .args in
-      let k = c .before .before .before .loop .k in
-      usable (args .count) (drop (args .first) (statesOf (args .map)))
-      ≡ (c .is-usable .result && usable (args .count - (k + 1)) (drop (args .first + (k + 1)) (statesOf (args .map))))
+    let k = c .before .before .before .loop .k in
+    usable (args .count) (drop (args .first) (statesOf (args .map)))
+    ≡ (c .is-usable .result && usable (args .count - (k + 1)) (drop (args .first + (k + 1)) (statesOf (args .map))))
 next c =
     let args = c .before .before .before .before .args in
     let at = c .before .before .before .loop in

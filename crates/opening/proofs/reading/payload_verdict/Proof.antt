@@ -31,8 +31,8 @@ sized c =
 -- the payload's CRC is that of one run of bytes behind the header
 payload-crc : (c : tie.After-crc32)
     → let args = c .before .before .before .before .before .args in
-      crc32 crcStart (take (sizeOf (args .t4)) (joined (take (covered (args .t4)) (drop (args .index + 1) (entriesOf (args .image .now))))))
-      ≡ c .crc32 .result
+    crc32 crcStart (take (sizeOf (args .t4)) (joined (take (covered (args .t4)) (drop (args .index + 1) (entriesOf (args .image .now))))))
+    ≡ c .crc32 .result
 payload-crc c =
     let sized = c .before .before in
     let args = sized .before .before .before .args in
@@ -47,7 +47,7 @@ payload-crc c =
 
 payload-wrong : (c : tie.Then2)
     → let args = c .before .before .before .before .before .before .before .before .args in
-      payloadCrcWrong (args .t4) (take (covered (args .t4)) (drop (args .index + 1) (entriesOf (args .image .now)))) ≡ true
+    payloadCrcWrong (args .t4) (take (covered (args .t4)) (drop (args .index + 1) (entriesOf (args .image .now)))) ≡ true
 payload-wrong c =
     let crc = payload-crc (c .before .before .before) in
     let stored = c .before .number-at .ensures in
@@ -55,7 +55,7 @@ payload-wrong c =
 
 payload-right : (c : tie.Else2)
     → let args = c .before .before .before .before .before .before .before .before .args in
-      payloadCrcWrong (args .t4) (take (covered (args .t4)) (drop (args .index + 1) (entriesOf (args .image .now)))) ≡ false
+    payloadCrcWrong (args .t4) (take (covered (args .t4)) (drop (args .index + 1) (entriesOf (args .image .now)))) ≡ false
 payload-right c =
     let crc = payload-crc (c .before .before .before) in
     let stored = c .before .number-at .ensures in

@@ -41,10 +41,10 @@ crc-right c = crc-tested (c .before) ∙ not-false (c .before .loads .result) (c
 -- past the span's tests only the type can refuse
 spanned : (c : tie.Else4)
     → let read = c .before .before .before .before .before .before .before in
-      let image = read .before .before .args .image .now in
-      let index = read .before .before .args .index in
-      headerRefusal (read .entry-at .result) (length (drop (index + 1) (entriesOf image)))
-      ≡ cond (wrongSpan (read .entry-at .result)) (some WrongSpan) none
+    let image = read .before .before .args .image .now in
+    let index = read .before .before .args .index in
+    headerRefusal (read .entry-at .result) (length (drop (index + 1) (entriesOf image)))
+    ≡ cond (wrongSpan (read .entry-at .result)) (some WrongSpan) none
 unfolding headerRefusal
 spanned c =
     let loaded = c .before .before in

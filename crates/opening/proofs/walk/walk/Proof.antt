@@ -40,7 +40,7 @@ long c = c .good .1 .0 .1 .0 .1
 
 verdict : (c : tie.After-verdict-at Inv-loop μ-loop)
     → let start = c .before .before .before .before .before in
-      verdictOf (start .args .image .now) (start .args .map) (c .before .before .loop .index) ≡ c .verdict-at .result
+    verdictOf (start .args .image .now) (start .args .map) (c .before .before .loop .index) ≡ c .verdict-at .result
 verdict c = sym (c .verdict-at .ensures)
 
 fits : (c : tie.After-verdict-at Inv-loop μ-loop) → c .before .before .loop .index + stepsOver (c .verdict-at .result) < 126
@@ -100,8 +100,7 @@ loop-again c =
     let map = start .args .map in
     let index = at .loop .index in
     let inside = decided .before .loop-test .taken in
-    let steps = c .steps-over .ensures in
-    (
+    let steps = c .steps-over .ensures in (
       omega (arith, fits decided),
       rw (steps, marked .marked-by .ensures) (marked-step image map (at .loop .marked) index (long start) inside (at .loop .inv .1) (decided .verdict-at .result) (verdict decided)),
       rw (steps, headed .is-refused-item .ensures, ← verdict decided) (heads-step image map (at .loop .heads) index (long start) inside (at .loop .inv .2)),
@@ -114,8 +113,7 @@ returns c =
     let start = at .before .before .before in
     let image = start .args .image .now in
     let map = start .args .map in
-    let end : at .loop .index ≡ 126 = omega arith in
-    (
+    let end : at .loop .index ≡ 126 = omega arith in (
       marked-end image map (at .loop .marked) (at .loop .index) (long start) end (at .loop .inv .1),
       at .loop .inv .1 .spare,
       heads-end image map (at .loop .heads) (at .loop .index) (long start) end (at .loop .inv .2),

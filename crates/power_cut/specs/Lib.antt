@@ -1,0 +1,3 @@
+pub mod History
+pub mod PowerCut
+pub mod Edges

@@ -1,0 +1,92 @@
+-- Demand 3: what a page holds after any history, and after a power cut in one more append or copy.
+--
+-- In order: the demand in plain words, each sentence the statement below it; then initialise cut short; then opening itself cut short.
+-- A cut after n whole units of a call leaves what the call leaves when told to stop after n: `imageOf write image page n`.
+-- What opening finds is the reading's kept items: index and bytes of each, namespace entries included.
+-- Each statement is a type; proofs/ has a proof of each.
+-- Assumes that a unit is done or not, and that a byte is stored as old AND new.
+use mathlib.Core.Path.{_≡_}
+use mathlib.Core.Bool.{true, cond}
+use mathlib.Core.List.{List, [], _∷_, _++_, List·Memᴰ}
+use mathlib.Core.Logic.{_⊎_}
+use Prim.Native.Nat.{ℕ, _+_, _≤_, _<_}
+use lib.Bits.{bitAnd}
+use lib.Dec.{leb}
+use lib.ListN.{length, take, getD, replicate}
+use Rattle.flash.specs.Flash.{run}
+use Rattle.page.specs.declared.Outcome.{Outcome}
+use Rattle.page.specs.declared.ThinPage.{ThinPage}
+use Rattle.page.specs.Record.{nextFree, uninitialized}
+use Rattle.page.specs.Writing.{answered}
+use Rattle.sector.specs.declared.Answer.the-variants.{Done, CorruptedData, Stopped}
+use Rattle.sector.specs.Layout.{sectorSize, entriesPerPage, entryAt}
+use Rattle.header.specs.Calls.{initialiseImage, initialisePlan}
+use Rattle.erase.specs.Erase.{erase, eraseImage}
+use Rattle.opening.specs.Reading.{Item, item}
+use Rattle.opening.specs.Opening.{headerVerdictOf, keptItems, planFor, opening, openingImage}
+use Rattle.power_cut.specs.History.{Sector, Write, outcomeOf, imageOf, entriesOfWrite, entryUnits, newItem, withoutItem, History}
+
+-- ---- the demand
+
+-- at any point of a history opening is accepted, finds exactly the items put and not erased, hands back exactly the record at hand, and changes no byte
+abbrev pub FindsWhatWasPut : Type 0
+FindsWhatWasPut =
+    (image : List ℕ) (page : ThinPage) (items : List Item) → History image page items
+    → (keptItems image ≡ items) × (opening image ≡ answered Done page) × (openingImage image ≡ image)
+
+-- a write begins: no check refuses it
+abbrev pub Begins : Write → List ℕ → ThinPage → ℕ → Type 0
+Begins write image page n = (outcomeOf write image page n .answer ≡ Done) ⊎ (outcomeOf write image page n .answer ≡ Stopped)
+
+-- one more append or copy, cut after any n: opening is accepted; it finds the earlier items where n is at or before the last entry unit,
+-- and those and the new one, whole, from the first entry-map unit on
+abbrev pub AbsentOrWhole : Type 0
+AbsentOrWhole =
+    (image : List ℕ) (page : ThinPage) (items : List Item) → History image page items
+    → (write : Write) (n : ℕ) → Begins write image page n
+    → (opening (imageOf write image page n) .answer ≡ Done)
+    × (keptItems (imageOf write image page n)
+    ≡ cond (leb n (length (entryUnits write page))) items (items ++ (newItem write page ∷ [])))
+
+-- no bit that was cleared is set
+abbrev pub SetsNoBit : List ℕ → List ℕ → Type 0
+SetsNoBit before after = (i : ℕ) → bitAnd (getD before i 0) (getD after i 0) ≡ getD after i 0
+
+-- no write of it, at any n, sets a cleared bit or alters another entry's bytes
+abbrev pub AltersNothingElse : Type 0
+AltersNothingElse =
+    (image : List ℕ) (page : ThinPage) (items : List Item) → History image page items
+    → (write : Write) (n : ℕ) → Begins write image page n
+    → SetsNoBit image (imageOf write image page n)
+    × ((i : ℕ) → i < entriesPerPage → (i < nextFree page) ⊎ (nextFree page + length (entriesOfWrite write) ≤ i)
+    → entryAt (imageOf write image page n) i ≡ entryAt image i)
+
+-- nor does an erasure set a cleared bit, and it alters no entry's bytes
+abbrev pub ErasesMarksAlone : Type 0
+ErasesMarksAlone =
+    (image : List ℕ) (page : ThinPage) (items : List Item) → History image page items
+    → (index : ℕ) (entries : List (List ℕ)) → List·Memᴰ (item index entries) items
+    → erase image page index (length entries) .answer ≡ Done
+    → SetsNoBit image (eraseImage image page index (length entries))
+    × ((i : ℕ) → i < entriesPerPage → entryAt (eraseImage image page index (length entries)) i ≡ entryAt image i)
+
+-- ---- initialise
+
+-- the page that a stopped initialise leaves opens as Uninitialized, as CorruptedData, or is the finished page
+abbrev pub InitialiseCut : Type 0
+InitialiseCut =
+    (sequence n : ℕ) → sequence < 0x1_0000_0000
+    → (opening (initialiseImage (replicate sectorSize 0xFF) uninitialized sequence n) ≡ answered Done uninitialized)
+    ⊎ ((opening (initialiseImage (replicate sectorSize 0xFF) uninitialized sequence n) ≡ answered CorruptedData uninitialized)
+    ⊎ (initialiseImage (replicate sectorSize 0xFF) uninitialized sequence n
+    ≡ initialiseImage (replicate sectorSize 0xFF) uninitialized sequence (length (initialisePlan sequence))))
+
+-- ---- opening
+
+-- opening cut after any n of its map units, and opened again, gives the answer, record, image and items of one whole opening
+abbrev pub OpeningCut : Type 0
+OpeningCut =
+    (image : List ℕ) (n : ℕ) → Sector image
+    → (opening (run (take n (planFor (headerVerdictOf image) image)) image) ≡ opening image)
+    × (openingImage (run (take n (planFor (headerVerdictOf image) image)) image) ≡ openingImage image)
+    × (keptItems (run (take n (planFor (headerVerdictOf image) image)) image) ≡ keptItems image)
