@@ -54,6 +54,14 @@ refusal-append [] ys = refl
 refusal-append ((true, answer) ∷ xs) ys = refl
 refusal-append ((false, answer) ∷ xs) ys = refusal-append xs ys
 
+-- a refusal in front is that of all
+pub refusal-refused : (xs ys : List Check) {answer : Answer} → accepted xs ≡ false → answer ≡ refusal xs → answer ≡ refusal (xs ++ ys)
+refusal-refused xs ys refused e = e ∙ sym (refusal-append xs ys ∙ rw refused)
+
+-- past checks that accept, the refusal is that of the checks behind
+pub refusal-passed : (xs ys : List Check) {answer : Answer} → accepted xs ≡ true → answer ≡ refusal ys → answer ≡ refusal (xs ++ ys)
+refusal-passed xs ys passed e = e ∙ sym (refusal-append xs ys ∙ rw passed)
+
 -- ---- what accepted checks tell
 
 pub accepted-head : (test : Bool) (answer : Answer) (checks : List Check) → accepted ((test, answer) ∷ checks) ≡ true → test ≡ false

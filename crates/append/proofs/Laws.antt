@@ -1,0 +1,79 @@
+-- Laws of appends: the checks that they share, what accepted checks tell, and how many units they have.
+-- Assumes nothing.
+use mathlib.Core.Path.{_≡_, _∙_}
+use mathlib.Core.Bool.{true, cond}
+use mathlib.Core.List.{List, [], _∷_, _++_}
+use Prim.Native.Nat.{ℕ, _+_, _≤_}
+use native.Mathlib.Omega.{arith}
+use lib.Dec.{eqb, ltb}
+use lib.ListN.{length, length-append}
+use Rattle.flash.specs.Flash.{units}
+use Rattle.flash.proofs.Laws.{length-units-whole}
+use Rattle.page.specs.declared.ThinPage.{ThinPage}
+use Rattle.page.specs.Record.{nextFree, fitToUse}
+use Rattle.page.specs.Writing.{badImage, badRecord, notActive, overFree, fullUnits, itemPlan}
+use Rattle.page.proofs.Checks.{accepted-tail, accepted-room, accepted-usable}
+use Rattle.page.proofs.Plans.{length-map-units, length-full-units}
+use Rattle.sector.specs.declared.Answer.the-variants.{BadRequest, ValueTooLong}
+use Rattle.sector.specs.declared.EntryMapState.the-variants.{Written}
+use Rattle.sector.specs.Answers.{Check, accepted}
+use Rattle.sector.specs.Item.{itemBytes}
+use Rattle.sector.specs.Layout.{sectorSize, entriesPerPage, entryAddress}
+use Rattle.sector.specs.Map.{markRange, mapUnits}
+use Rattle.sector.proofs.Laws.{length-markRange}
+use Rattle.append.specs.declared.Single.{Single}
+use Rattle.append.specs.declared.Variable.{Variable}
+use Rattle.append.specs.Append.{singleRequest, singleChecks, singleBytes, singlePlan, spanFor, variableRequest, variableChecks}
+
+-- ---- checks
+
+-- those in front of every append
+abbrev pub frontChecks : List ℕ → ThinPage → List Check
+frontChecks image page = badImage image ∷ badRecord page ∷ notActive page ∷ []
+
+-- an image and a record that take an item of so many entries
+pub record Room (image : List ℕ) (page : ThinPage) (span : ℕ) : Type 0 where
+  pub whole : length image ≡ sectorSize
+  pub fit : fitToUse page ≡ true
+  pub room : nextFree page + span ≤ entriesPerPage
+
+pub single-room : (image : List ℕ) (page : ThinPage) (item : Single) → accepted (singleChecks image page item) ≡ true → Room image page 1
+single-room image page item h =
+    let usable = accepted-usable image page (notActive page .0) (singleRequest item ∷ overFree page 1 ∷ []) h in
+    let behind-request = accepted-tail (singleRequest item .0) BadRequest (overFree page 1 ∷ []) (usable .rest) in
+    record { whole = usable .whole; fit = usable .fit; room = accepted-room page 1 (omega arith) behind-request }
+
+pub variable-room : (image : List ℕ) (page : ThinPage) (item : Variable) (payload : List ℕ)
+    → accepted (variableChecks image page item payload) ≡ true → Room image page (spanFor (length payload))
+variable-room image page item payload h =
+    let span = spanFor (length payload) in
+    let too-long = ltb entriesPerPage span in
+    let usable = accepted-usable image page (notActive page .0) (variableRequest item ∷ (too-long, ValueTooLong) ∷ overFree page span ∷ []) h in
+    let behind-request = accepted-tail (variableRequest item .0) BadRequest ((too-long, ValueTooLong) ∷ overFree page span ∷ []) (usable .rest) in
+    let behind-length = accepted-tail too-long ValueTooLong (overFree page span ∷ []) behind-request in
+    record { whole = usable .whole; fit = usable .fit; room = accepted-room page span (omega arith) behind-length }
+
+-- ---- units
+
+-- an item of a whole key and whole data fills its entry
+pub length-itemBytes : (namespace type span chunk : ℕ) (key bytes : List ℕ) → length key ≡ 16 → length bytes ≡ 8
+    → length (itemBytes namespace type span chunk key bytes) ≡ 32
+unfolding itemBytes
+length-itemBytes namespace type span chunk key bytes k b = omega (arith, length-append key bytes)
+
+-- a single is nine units, and ten where it fills the page
+pub length-singlePlan : (page : ThinPage) (item : Single) → length (page .map) ≡ 32 → length (item .key) ≡ 16 → length (item .bytes) ≡ 8
+    → nextFree page + 1 ≤ 126 → length (singlePlan page item) ≡ 9 + cond (eqb (nextFree page + 1) entriesPerPage) 1 0
+unfolding singlePlan itemPlan
+length-singlePlan page item m k b room =
+    let start = nextFree page in
+    let map = markRange Written start 1 (page .map) in
+    let entry = units (entryAddress start) (singleBytes item) in
+    omega (
+      arith,
+      length-append entry (mapUnits start 1 map ++ fullUnits (start + 1)),
+      length-append (mapUnits start 1 map) (fullUnits (start + 1)),
+      length-units-whole (entryAddress start) 8 (singleBytes item) (length-itemBytes (item .namespace) (item .kind) 1 (item .chunk) (item .key) (item .bytes) k b),
+      length-map-units start 1 map (length-markRange Written start 1 (page .map) ∙ m) (omega arith) room,
+      length-full-units (start + 1),
+    )
