@@ -13,3 +13,4 @@ pub mod Entries
 pub mod Steps
 pub mod FreeTail
 pub mod Progress
+pub mod Passes

@@ -57,12 +57,12 @@ abbrev pub verdictOf : List ℕ → List ℕ → ℕ → Verdict
 verdictOf image map i = verdictAt (stateAt map i) (entryAt image i) (drop (i + 1) (statesOf map)) (drop (i + 1) (entriesOf image))
 
 module _ (image map : List ℕ) (i : ℕ) (long : length map ≡ 32) (inside : i < 126) where
-  states-from : drop i (statesOf map) ≡ stateAt map i ∷ drop (i + 1) (statesOf map)
+  pub states-from : drop i (statesOf map) ≡ stateAt map i ∷ drop (i + 1) (statesOf map)
   states-from =
       let fits : i < length (statesOf map) = rw (length-statesOf map long) inside in
       rw (drop-cons (statesOf map) i Empty fits, getD-statesOf map i long inside, add-one i)
 
-  entries-from : drop i (entriesOf image) ≡ entryAt image i ∷ drop (i + 1) (entriesOf image)
+  pub entries-from : drop i (entriesOf image) ≡ entryAt image i ∷ drop (i + 1) (entriesOf image)
   entries-from =
       let fits : i < length (entriesOf image) = rw (length-entries image) inside in
       rw (drop-cons (entriesOf image) i [] fits, getD-entries image i inside, add-one i)

@@ -52,7 +52,7 @@ fn with_item(listing: Listing, entry: [u8; 32], index: usize) -> Listing
     let hash = hash_of(entry);
     let len = listing.len;
     let mut list = listing.list;
-    list[len] = Listed {
+    list[len as usize] = Listed {
         hash,
         index: index as u8,
     };

@@ -9,16 +9,16 @@ ghost use Rattle.sector.specs.Map.{stateAt, statesOf};
 ghost use Rattle.opening.specs.Reading.{covered, isUsable, usable, firstRule, sizeTooBig, payloadCrcWrong, headerRefusal, itemVerdict, headerVerdict, verdictAt};
 use crate::Reason;
 use crate::Verdict;
+use page::write;
+use sector::CRC_START;
+use sector::ENTRIES_PER_PAGE;
 use sector::EntryMapState;
 use sector::bytes;
 use sector::item;
 use sector::map;
 use sector::types;
 
-const ENTRIES_PER_PAGE: usize = 126;
 const ENTRY_SIZE: usize = 32;
-const ITEMS_OFFSET: usize = 64;
-const CRC_START: u32 = 0xFFFFFFFF;
 
 fn is_usable(state: EntryMapState) -> bool
     ensures { λ r. ⌜ r ≡ isUsable state ⌝ }
@@ -54,7 +54,7 @@ fn payload_verdict(image: &[u8], map: [u8; 32], index: usize, entry: [u8; 32]) -
     if size > ENTRY_SIZE * behind {
         return Verdict::RefusedItem(Reason::SizeTooBig, behind);
     }
-    let start = ITEMS_OFFSET + ENTRY_SIZE * (index + 1);
+    let start = write::entry_address(index + 1);
     let crc = crc::crc32(CRC_START, &image[start..start + size]);
     if crc != bytes::number_at(&entry, 28) {
         return Verdict::RefusedItem(Reason::PayloadCrcWrong, behind);

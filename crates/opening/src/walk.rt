@@ -12,10 +12,9 @@ use crate::Verdict;
 use crate::Walked;
 use crate::kept;
 use crate::reading;
+use sector::ENTRIES_PER_PAGE;
 use sector::EntryMapState;
 use sector::map;
-
-const ENTRIES_PER_PAGE: usize = 126;
 
 fn steps_over(verdict: Verdict) -> usize
     ensures { λ r. ⌜ r ≡ stepsOver verdict ⌝ }

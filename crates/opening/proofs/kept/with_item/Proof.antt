@@ -21,14 +21,17 @@ hash-of-requires c κs = search needs
 cast-t10 : tie.Need-cast-t10
 cast-t10 c = search needs
 
+cast-list : tie.Need-cast-list
+cast-list c = search needs
+
 mul-list : tie.Need-mul-list
 mul-list c = search needs
 
 array-set-from-list : tie.Need-array-set-from-list
 array-set-from-list c = search needs
 
-add-t14 : tie.Need-add-t14
-add-t14 c = search needs
+add-t10 : tie.Need-add-t10
+add-t10 c = search needs
 
 returns-2 : tie.Need-returns-2
 returns-2 c =
@@ -43,7 +46,8 @@ with-item-spec =
     returns
     hash-of-requires
     cast-t10
+    cast-list
     mul-list
     array-set-from-list
-    add-t14
+    add-t10
     returns-2)
