@@ -3,23 +3,29 @@
 use mathlib.Core.Path.{_≡_, refl, sym, ap, ap₂, _∙_}
 use mathlib.Core.Bool.{Bool, true, false, _&&_, not, cond, false≢true}
 use mathlib.Core.List.{List, [], _∷_, _++_, append-nil}
-use Prim.Native.Nat.{ℕ, zero, suc, _+_, _-_, _*_, _<_, _≤_}
+use Prim.Native.Nat.{ℕ, zero, suc, _+_, _*_, _<_, _≤_}
 use native.Mathlib.Nat.{le-of-suc-le-suc, not-suc-le-zero, le-refl, add-zero}
 use native.Mathlib.Numerals.{add-one}
 use native.Mathlib.Omega.{arith}
-use lib.ListN.{length, take, drop, getD, length-take, length-drop, length-append, take-append-drop, drop-of-length-le}
+use lib.ListN.{length, take, drop, getD, take-append-drop, drop-of-length-le}
 use lib.Seq.{take-suc, take-all, drop-drop, getD-drop}
-use Rattle.flash.specs.Flash.{Unit4, unit, units, run}
+use Rattle.flash.specs.Flash.{units, run}
 use Rattle.flash.proofs.Laws.{Bytes, run-append}
 use Rattle.sector.specs.declared.EntryMapState.{EntryMapState}
 use Rattle.sector.specs.declared.EntryMapState.the-variants.{Empty, Written, Erased, Illegal}
-use Rattle.sector.specs.Layout.{entriesPerPage, mapOffset, field}
+use Rattle.sector.specs.Layout.{entriesPerPage, mapOffset}
 use Rattle.sector.specs.Map.{unpack, statesOf, stateAt, sameState, pack, markRange}
 use Rattle.sector.proofs.Laws.{field-cons, length-statesOf, getD-statesOf, length-markRange}
 use Rattle.sector.proofs.Marks.{both, take-marked, drop-marked, getD-marked-same, statesOf-markRange, unpack-markRange, bytes-markRange, pack-unpack}
 use Rattle.opening.specs.Reading.{shut}
 use Rattle.opening.specs.Opening.{upperCleared, firstPass, sameBytes, mapUnit, changedUnits}
 use Rattle.opening.specs.Steps.{shutTo}
+
+-- ---- maps by their states
+
+-- a map is its entries' states, and the two that belong to none
+pub map-states : {map : List ℕ} → Bytes map → map ≡ pack (statesOf map ++ drop entriesPerPage (unpack map))
+map-states {map} b = sym (pack-unpack b) ∙ ap pack (sym (take-append-drop entriesPerPage (unpack map)))
 
 -- ---- units
 
@@ -44,7 +50,7 @@ take-mapUnit map j address h = rw (unit-bytes map j h)
 pub run-changed : (j n : ℕ) (old new image : List ℕ)
     → run (changedUnits j (suc n) old new) image
     ≡ run (changedUnits (suc j) n old new)
-      (run (cond (sameBytes (mapUnit j old) (mapUnit j new)) [] (units (mapOffset + 4 * j) (mapUnit j new))) image)
+    (run (cond (sameBytes (mapUnit j old) (mapUnit j new)) [] (units (mapOffset + 4 * j) (mapUnit j new))) image)
 unfolding changedUnits
 run-changed j n old new image =
     run-append (cond (sameBytes (mapUnit j old) (mapUnit j new)) [] (units (mapOffset + 4 * j) (mapUnit j new))) (changedUnits (suc j) n old new) image
@@ -82,10 +88,10 @@ module _ (target : List EntryMapState) (map now : List ℕ) (i : ℕ) (long : le
       let fits : i < length (statesOf next) = rw (length-statesOf next whole) inside in
       record {
         marks =
-          rw (add-one i, take-suc (statesOf next) i Empty fits, take-suc target i Empty room)
-          (ap₂ (λ (front : List EntryMapState) (s : EntryMapState). front ++ (s ∷ [])) (before ∙ to .marks) at);
+            rw (add-one i, take-suc (statesOf next) i Empty fits, take-suc target i Empty room)
+            (ap₂ (λ (front : List EntryMapState) (s : EntryMapState). front ++ (s ∷ [])) (before ∙ to .marks) at);
         left =
-          behind ∙ sym (drop-drop 1 i (statesOf now)) ∙ ap (drop 1) (to .left) ∙ drop-drop 1 i (statesOf map);
+            behind ∙ sym (drop-drop 1 i (statesOf now)) ∙ ap (drop 1) (to .left) ∙ drop-drop 1 i (statesOf map);
         spare = spare ∙ to .spare;
         bytes = bytes;
         whole = whole;
@@ -190,7 +196,7 @@ getD-firstPass (suc i) (s ∷ states) (new ∷ news) (head ∷ heads) h g f =
 module _ (map opened : List ℕ) (heads : List Bool) (long : length map ≡ 32) (opened-long : length opened ≡ 32) (heads-long : length heads ≡ 126) where
   pub first-step : (now : List ℕ) (i : ℕ) → i < 126 → PassedTo (firstPass (statesOf map) (statesOf opened) heads) map now i
       → PassedTo (firstPass (statesOf map) (statesOf opened) heads) map
-        (cond (sameState (stateAt opened i) Erased && not (getD heads i false)) (markRange Illegal i 1 now) now) (i + 1)
+      (cond (sameState (stateAt opened i) Erased && not (getD heads i false)) (markRange Illegal i 1 now) now) (i + 1)
   first-step now i inside to = go (sameState (stateAt opened i) Erased && not (getD heads i false)) refl
     where
       room : i < length (firstPass (statesOf map) (statesOf opened) heads)

@@ -1,15 +1,15 @@
 -- What the walk's loop has done up to an index, and what is left of it: in the map, of the refused headers, of the list.
 -- Assumes nothing.
 use mathlib.Core.Path.{_≡_, refl, sym, ap, ap₂, _∙_}
-use mathlib.Core.Bool.{Bool, true, false, _&&_, cond, and-eq-true-iff, false≢true}
+use mathlib.Core.Bool.{Bool, true, false, and-eq-true-iff, false≢true}
 use mathlib.Core.List.{List, [], _∷_, _++_, append-assoc, append-nil}
-use Prim.Native.Nat.{ℕ, zero, suc, _+_, _-_, _*_, _<_, _≤_}
+use Prim.Native.Nat.{ℕ, zero, suc, _+_, _-_, _<_, _≤_}
 use native.Mathlib.Nat.{le-of-suc-le-suc, not-suc-le-zero, le-refl, add-zero, sub-zero}
 use native.Mathlib.Numerals.{add-one}
 use native.Mathlib.Omega.{arith}
 use lib.Dec.{eqb}
-use lib.ListN.{length, take, drop, getD, set, replicate, length-drop, length-take, length-set, length-replicate, replicate-append-replicate, length-append, take-append-drop, drop-of-length-le}
-use lib.Seq.{drop-cons, take-add, drop-drop, take-at, drop-at, take-set-le, drop-set-add, take-all, set-append-seam}
+use lib.ListN.{length, take, drop, set, replicate, length-drop, length-set, length-replicate, length-append, take-append-drop, drop-of-length-le}
+use lib.Seq.{drop-cons, take-add, drop-drop, take-at, take-set-le, drop-set-add, take-all, set-append-seam}
 use Rattle.flash.proofs.Laws.{Bytes}
 use Rattle.page.specs.declared.Listed.{Listed}
 use Rattle.page.specs.Record.{noItem, padded}
@@ -19,9 +19,9 @@ use Rattle.sector.specs.Item.{hashOfItem}
 use Rattle.sector.specs.Layout.{entriesPerPage, entryAt, entriesOf, namespaceOf}
 use Rattle.sector.specs.Map.{unpack, statesOf, stateAt, markRange}
 use Rattle.sector.proofs.Laws.{length-statesOf, getD-statesOf, length-markRange}
-use Rattle.sector.proofs.Marks.{marked, both, length-marked, take-marked, drop-marked, marked-erased, marked-none, statesOf-markRange, unpack-markRange, bytes-markRange}
+use Rattle.sector.proofs.Marks.{marked, both, take-marked, drop-marked, marked-erased, statesOf-markRange, unpack-markRange, bytes-markRange}
 use Rattle.opening.specs.declared.Listing.{Listing}
-use Rattle.opening.specs.Reading.{Verdict, NotAnItem, RefusedEntry, RefusedItem, Kept, Item, item, isUsable, usable, verdictAt, stepsOver, markOf, markBehind, walk, withKept, keptFrom}
+use Rattle.opening.specs.Reading.{Verdict, NotAnItem, RefusedEntry, RefusedItem, Kept, Item, isUsable, usable, verdictAt, stepsOver, markOf, markBehind, walk, withKept, keptFrom}
 use Rattle.opening.specs.Opening.{isRefusedItem, refusedHeaders, listedItems}
 use Rattle.opening.specs.Steps.{markedBy, listingOf, withItem, listedBy}
 use Rattle.opening.proofs.Entries.{length-entries, getD-entries}
@@ -95,7 +95,7 @@ module _ (image map : List ℕ) (i : ℕ) (long : length map ≡ 32) (inside : i
       let v = verdictOf image map i in
       walk zero Erased (drop i (statesOf map)) (drop i (entriesOf image))
       ≡ (markOf (stateAt map i) v ∷ replicate (stepsOver v) (markBehind v))
-        ++ walk zero Erased (drop (i + 1 + stepsOver v) (statesOf map)) (drop (i + 1 + stepsOver v) (entriesOf image))
+      ++ walk zero Erased (drop (i + 1 + stepsOver v) (statesOf map)) (drop (i + 1 + stepsOver v) (entriesOf image))
   walk-from =
       let v = verdictOf image map i in
       let states = drop (i + 1) (statesOf map) in
@@ -104,13 +104,13 @@ module _ (image map : List ℕ) (i : ℕ) (long : length map ≡ 32) (inside : i
       ∙ ap (λ (rest : List EntryMapState). markOf (stateAt map i) v ∷ rest)
       (walk-skip (stepsOver v) (markBehind v) states entries steps-states steps-entries
       ∙ ap₂ (λ (ss : List EntryMapState) (es : List (List ℕ)). replicate (stepsOver v) (markBehind v) ++ walk zero Erased ss es)
-        (drop-drop (stepsOver v) (i + 1) (statesOf map)) (drop-drop (stepsOver v) (i + 1) (entriesOf image)))
+      (drop-drop (stepsOver v) (i + 1) (statesOf map)) (drop-drop (stepsOver v) (i + 1) (entriesOf image)))
 
   headers-from :
       let v = verdictOf image map i in
       refusedHeaders zero (drop i (statesOf map)) (drop i (entriesOf image))
       ≡ (isRefusedItem v ∷ replicate (stepsOver v) false)
-        ++ refusedHeaders zero (drop (i + 1 + stepsOver v) (statesOf map)) (drop (i + 1 + stepsOver v) (entriesOf image))
+      ++ refusedHeaders zero (drop (i + 1 + stepsOver v) (statesOf map)) (drop (i + 1 + stepsOver v) (entriesOf image))
   headers-from =
       let v = verdictOf image map i in
       let states = drop (i + 1) (statesOf map) in
@@ -119,13 +119,13 @@ module _ (image map : List ℕ) (i : ℕ) (long : length map ≡ 32) (inside : i
       ∙ ap (λ (rest : List Bool). isRefusedItem v ∷ rest)
       (refused-headers-skip (stepsOver v) states entries steps-states steps-entries
       ∙ ap₂ (λ (ss : List EntryMapState) (es : List (List ℕ)). replicate (stepsOver v) false ++ refusedHeaders zero ss es)
-        (drop-drop (stepsOver v) (i + 1) (statesOf map)) (drop-drop (stepsOver v) (i + 1) (entriesOf image)))
+      (drop-drop (stepsOver v) (i + 1) (statesOf map)) (drop-drop (stepsOver v) (i + 1) (entriesOf image)))
 
   kept-from :
       let v = verdictOf image map i in
       keptFrom zero i (drop i (statesOf map)) (drop i (entriesOf image))
       ≡ withKept v i (entryAt image i) (drop (i + 1) (entriesOf image))
-        (keptFrom zero (i + 1 + stepsOver v) (drop (i + 1 + stepsOver v) (statesOf map)) (drop (i + 1 + stepsOver v) (entriesOf image)))
+      (keptFrom zero (i + 1 + stepsOver v) (drop (i + 1 + stepsOver v) (statesOf map)) (drop (i + 1 + stepsOver v) (entriesOf image)))
   kept-from =
       let v = verdictOf image map i in
       let states = drop (i + 1) (statesOf map) in
@@ -134,7 +134,7 @@ module _ (image map : List ℕ) (i : ℕ) (long : length map ≡ 32) (inside : i
       ∙ ap (λ (rest : List Item). withKept v i (entryAt image i) entries rest)
       (kept-skip (stepsOver v) (suc i) states entries steps-states steps-entries
       ∙ ap₂ (λ (ss : List EntryMapState) (es : List (List ℕ)). keptFrom zero (suc i + stepsOver v) ss es)
-        (drop-drop (stepsOver v) (i + 1) (statesOf map)) (drop-drop (stepsOver v) (i + 1) (entriesOf image))
+      (drop-drop (stepsOver v) (i + 1) (statesOf map)) (drop-drop (stepsOver v) (i + 1) (entriesOf image))
       ∙ ap (λ (next : ℕ). keptFrom zero (next + stepsOver v) (drop (i + 1 + stepsOver v) (statesOf map)) (drop (i + 1 + stepsOver v) (entriesOf image))) (sym (add-one i)))
 
 -- ---- the map
@@ -203,10 +203,10 @@ module _ (image map now : List ℕ) (i : ℕ) (long : length map ≡ 32) (inside
       let there : i + suc (stepsOver v) ≡ j = omega arith in
       record {
         marks =
-          forward (statesOf now) (statesOf next) (markOf (stateAt map i) v ∷ replicate (stepsOver v) (markBehind v))
-          (walk zero Erased (drop j (statesOf map)) (drop j (entriesOf image)))
-          (walk zero Erased (drop i (statesOf map)) (drop i (entriesOf image))) (walk zero Erased (statesOf map) (entriesOf image))
-          i (suc (stepsOver v)) j there before within (rw e at (walk-from image map i long inside)) (to .marks);
+            forward (statesOf now) (statesOf next) (markOf (stateAt map i) v ∷ replicate (stepsOver v) (markBehind v))
+            (walk zero Erased (drop j (statesOf map)) (drop j (entriesOf image)))
+            (walk zero Erased (drop i (statesOf map)) (drop i (entriesOf image))) (walk zero Erased (statesOf map) (entriesOf image))
+            i (suc (stepsOver v)) j there before within (rw e at (walk-from image map i long inside)) (to .marks);
         left = behind ∙ drop-further (statesOf now) (statesOf map) i j (omega arith) (to .left);
         spare = spare ∙ to .spare;
         bytes = bytes;
@@ -282,15 +282,15 @@ heads-step image map heads i long inside to =
     let there : i + suc k ≡ j = omega arith in
     let stored = drop-stored heads i head inside (to .left) in
     let within : take (suc k) (drop i (set heads i head)) ≡ head ∷ replicate k false =
-      rw stored (ap (λ (rest : List Bool). head ∷ rest) (take-replicate k (125 - i) false (omega arith))) in
+    rw stored (ap (λ (rest : List Bool). head ∷ rest) (take-replicate k (125 - i) false (omega arith))) in
     let behind : drop (suc k) (drop i (set heads i head)) ≡ replicate (125 - i - k) false =
-      rw stored (drop-replicate k (125 - i) false (omega arith)) in
+    rw stored (drop-replicate k (125 - i) false (omega arith)) in
     let less : 125 - i - k ≡ 126 - j = omega arith in
     record {
       marks =
-        forward heads (set heads i head) (head ∷ replicate k false) (refusedHeaders zero (drop j (statesOf map)) (drop j (entriesOf image)))
-        (refusedHeaders zero (drop i (statesOf map)) (drop i (entriesOf image))) (refusedHeaders zero (statesOf map) (entriesOf image))
-        i (suc k) j there (take-set-le i heads i head (le-refl i)) within (headers-from image map i long inside) (to .marks);
+          forward heads (set heads i head) (head ∷ replicate k false) (refusedHeaders zero (drop j (statesOf map)) (drop j (entriesOf image)))
+          (refusedHeaders zero (drop i (statesOf map)) (drop i (entriesOf image))) (refusedHeaders zero (statesOf map) (entriesOf image))
+          i (suc k) j there (take-set-le i heads i head (le-refl i)) within (headers-from image map i long inside) (to .marks);
       left = ap (λ (n : ℕ). drop n (set heads i head)) (sym there) ∙ sym (drop-drop (suc k) i (set heads i head)) ∙ behind ∙ ap (λ (n : ℕ). replicate n false) less;
       whole = length-set heads i head ∙ to .whole;
     }
@@ -333,8 +333,8 @@ listing-more all rest listing place room places left =
     let whole : n ≡ length front = ap (λ (l : Listing). l .len) places in
     let split : take (n + 1) all ≡ front ++ (place ∷ []) = take-add n 1 all ∙ ap (λ (rest : List Listed). front ++ take 1 rest) left in
     let stored : set (listing .list) n place ≡ padded (front ++ (place ∷ [])) =
-      ap₂ (λ (l : List Listed) (m : ℕ). set l m place) (ap (λ (l : Listing). l .list) places) whole
-      ∙ padded-more front place (omega arith) in
+    ap₂ (λ (l : List Listed) (m : ℕ). set l m place) (ap (λ (l : Listing). l .list) places) whole
+    ∙ padded-more front place (omega arith) in
     let longer : n + 1 ≡ length (front ++ (place ∷ [])) = rw (length-append front (place ∷ []), ← whole) in
     rw split (ap₂ (λ (m : ℕ) (l : List Listed). record { len = m; list = l }) longer stored)
 

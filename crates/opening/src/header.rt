@@ -27,7 +27,7 @@ fn is_open(state: PageState) -> bool
 }
 
 // An erased page, a page that opens, or the first rule that refused its header.
-pub fn header_verdict(image: &[u8]) -> HeaderVerdict
+pub(crate) fn header_verdict(image: &[u8]) -> HeaderVerdict
     requires { ⌜ length (now image) ≡ sectorSize ⌝ }
     ensures { λ r. ⌜ r ≡ headerVerdictOf (now (image .entry)) ⌝ }
 {

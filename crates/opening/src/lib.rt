@@ -51,13 +51,13 @@ pub enum HeaderVerdict {
 }
 
 // Items outside namespace 0: 126 places, of which len are in use.
-pub struct Listing {
+pub(crate) struct Listing {
     pub len: u8,
     pub list: [Listed; 126],
 }
 
 // What the walk leaves: the map with its marks, which entries are headers of refused payload items, the kept items.
-pub struct Walked {
+pub(crate) struct Walked {
     pub map: [u8; 32],
     pub heads: [bool; 126],
     pub listing: Listing,
@@ -65,7 +65,7 @@ pub struct Walked {
 
 // What opening does to a page that opens: the map before it, the map after its first pass, and the record, with the map that
 // it leaves.
-pub struct Changes {
+pub(crate) struct Changes {
     pub map: [u8; 32],
     pub first: [u8; 32],
     pub page: ThinPage,
@@ -98,7 +98,7 @@ fn blank(answer: Answer) -> Outcome
 }
 
 // Programs what opening changes in the map of a page that opens, in two passes, and hands back its record.
-fn open_page(image: &mut [u8]) -> ThinPage
+fn opened_page(image: &mut [u8]) -> ThinPage
     requires { ⌜ length (now image) ≡ sectorSize ⌝ }
     ensures page { λ r. ⌜ r ≡ openedPage (now (image .entry)) ⌝ }
     ensures image { λ r. ⌜ now (image .exit) ≡ run (openingPlan (now (image .entry))) (now (image .entry)) ⌝ }
@@ -121,7 +121,7 @@ fn open_page(image: &mut [u8]) -> ThinPage
 //
 // Added by this port: the Rust's page scan is another reading, by other rules. The map is programmed in two passes, and only
 // where it changes, so that an opening cut by a power loss, opened again, gives what one whole opening gives.
-pub fn open(image: &mut [u8]) -> Outcome
+pub fn open_page(image: &mut [u8]) -> Outcome
     ensures answer { λ r. ⌜ r ≡ opening (now (image .entry)) ⌝ }
     ensures image { λ r. ⌜ now (image .exit) ≡ openingImage (now (image .entry)) ⌝ }
 {
@@ -131,7 +131,7 @@ pub fn open(image: &mut [u8]) -> Outcome
     match header::header_verdict(&image[..]) {
         HeaderVerdict::Blank => blank(Answer::Done),
         HeaderVerdict::Opens => {
-            let page = open_page(image);
+            let page = opened_page(image);
             Outcome {
                 answer: Answer::Done,
                 page,

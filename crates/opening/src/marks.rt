@@ -101,7 +101,7 @@ fn shut_to(map: [u8; 32], end: usize) -> [u8; 32]
 }
 
 // Before the free tail every Empty or Illegal entry becomes Erased.
-pub fn shut_before_tail(image: &[u8], map: [u8; 32]) -> [u8; 32]
+pub(crate) fn shut_before_tail(image: &[u8], map: [u8; 32]) -> [u8; 32]
     requires { ⌜ length (now image) ≡ sectorSize ⌝ }
     ensures { λ r. ⌜ (statesOf r ≡ shutBeforeTail (statesOf map) (entriesOf (now (image .entry)))) × (drop entriesPerPage (unpack r) ≡ drop entriesPerPage (unpack map)) ⌝ }
 {
@@ -124,7 +124,7 @@ fn clear_upper(map: [u8; 32], opened: [u8; 32], head: bool, index: usize) -> [u8
 }
 
 // The map after the first pass, from the map before opening, the one that it leaves, and the refused headers.
-pub fn first_pass(map: [u8; 32], opened: [u8; 32], heads: [bool; 126]) -> [u8; 32]
+pub(crate) fn first_pass(map: [u8; 32], opened: [u8; 32], heads: [bool; 126]) -> [u8; 32]
     ensures { λ r. ⌜ (statesOf r ≡ firstPass (statesOf map) (statesOf opened) heads) × (drop entriesPerPage (unpack r) ≡ drop entriesPerPage (unpack map)) ⌝ }
 {
     let mut marked = map;
@@ -166,7 +166,7 @@ fn program_unit(image: &mut [u8], old: [u8; 32], new: [u8; 32], unit: usize)
 }
 
 // Programs the units in which a new map differs from the old one, in rising address.
-pub fn program_changes(image: &mut [u8], old: [u8; 32], new: [u8; 32])
+pub(crate) fn program_changes(image: &mut [u8], old: [u8; 32], new: [u8; 32])
     requires { ⌜ length (now image) ≡ sectorSize ⌝ }
     ensures { λ r. ⌜ now (image .exit) ≡ run (changedUnits 0 8 old new) (now (image .entry)) ⌝ }
 {

@@ -4,8 +4,8 @@ ghost use lib.ListN.{length};
 ghost use Rattle.sector.specs.Layout.{sectorSize, mapOf};
 ghost use Rattle.opening.specs.Opening.{firstMap, openedPage};
 ghost use Rattle.opening.specs.Steps.{recordOf};
-use crate::Listing;
 use crate::Changes;
+use crate::Listing;
 use crate::marks;
 use crate::walk;
 use page::ThinPage;
@@ -53,7 +53,7 @@ fn record_of(image: &[u8], map: [u8; 32], listing: Listing) -> ThinPage
 }
 
 // Reads the page: the walk, the entries before the free tail, the first pass, the record.
-pub fn changes(image: &[u8]) -> Changes
+pub(crate) fn changes(image: &[u8]) -> Changes
     requires { ⌜ length (now image) ≡ sectorSize ⌝ }
     ensures { λ r. ⌜ (r .map ≡ mapOf (now (image .entry))) × (r .first ≡ firstMap (now (image .entry))) × (r .page ≡ openedPage (now (image .entry))) ⌝ }
 {

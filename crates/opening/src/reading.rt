@@ -1,12 +1,11 @@
 // The verdict at an entry (01, 'Opening'): each rule in its order, and the reason where one refuses.
 ghost use mathlib.Core.Path.{_≡_};
-ghost use mathlib.Core.Bool.{true, false, cond};
 ghost use mathlib.Core.List.{[], _∷_};
-ghost use Prim.Native.Nat.{_+_, _*_, _≤_, _<_};
+ghost use Prim.Native.Nat.{_+_, _≤_, _<_};
 ghost use lib.ListN.{length, take, drop};
 ghost use Rattle.sector.specs.Layout.{sectorSize, entriesPerPage, entryAt, entriesOf, spanOf};
 ghost use Rattle.sector.specs.Map.{stateAt, statesOf};
-ghost use Rattle.opening.specs.Reading.{covered, isUsable, usable, firstRule, sizeTooBig, payloadCrcWrong, headerRefusal, itemVerdict, headerVerdict, verdictAt};
+ghost use Rattle.opening.specs.Reading.{covered, isUsable, usable, firstRule, sizeTooBig, payloadCrcWrong, itemVerdict, verdictAt};
 use crate::Reason;
 use crate::Verdict;
 use page::write;
@@ -95,7 +94,7 @@ fn written_verdict(image: &[u8], map: [u8; 32], index: usize) -> Verdict
 }
 
 // The verdict at an entry, by the map and by the bytes of this entry and of those behind it.
-pub fn verdict_at(image: &[u8], map: [u8; 32], index: usize) -> Verdict
+pub(crate) fn verdict_at(image: &[u8], map: [u8; 32], index: usize) -> Verdict
     requires { ⌜ (length (now image) ≡ sectorSize) × (index < entriesPerPage) ⌝ }
     ensures { λ r. ⌜ r ≡ verdictAt (stateAt map index) (entryAt (now (image .entry)) index) (drop (index + 1) (statesOf map)) (drop (index + 1) (entriesOf (now (image .entry)))) ⌝ }
 {

@@ -1,13 +1,9 @@
 -- `kept::with_item` meets its contract: the place behind the last gets the item's hash and index.
-use mathlib.Core.Path.{_≡_, sym}
 use borrow.Author.Needs.{needs}
 use borrow.Author.Tests.{eq-eqb, ne-eqb}
 use Rattle.sector.specs.Layout.{namespaceOf}
 use Rattle.opening.proofs.kept.with_item.Statement.{statement}
 use Rattle.opening.proofs.kept.with_item.Tie as tie
-use Rattle.opening.proofs.kept.with_item.Reads as reads
-use Rattle.opening.proofs.kept.with_item.Lts as lts
-use Rattle.opening.proofs.kept.hash_of.Reads as hash-of-reads
 
 array-read-if1 : tie.Need-array-read-if1
 array-read-if1 c = search needs

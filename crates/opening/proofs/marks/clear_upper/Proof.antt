@@ -7,11 +7,6 @@ use Rattle.sector.specs.declared.EntryMapState.the-variants.{Erased}
 use Rattle.sector.specs.Map.{stateAt, sameState}
 use Rattle.opening.proofs.marks.clear_upper.Statement.{statement}
 use Rattle.opening.proofs.marks.clear_upper.Tie as tie
-use Rattle.opening.proofs.marks.clear_upper.Reads as reads
-use Rattle.opening.proofs.marks.clear_upper.Lts as lts
-use Rattle.opening.proofs.marks.is_erased.Reads as is-erased-reads
-use Rattle.sector.proofs.map.mark_range.Reads as mark-range-reads
-use Rattle.sector.proofs.map.state_at.Reads as state-at-reads
 
 erased : (c : tie.After-is-erased) → let args = c .before .before .args in sameState (stateAt (args .opened) (args .index)) Erased ≡ c .is-erased .result
 erased c = sym (c .is-erased .ensures ∙ ap (λ (s : EntryMapState). sameState s Erased) (c .before .state-at .ensures))

@@ -1,7 +1,6 @@
 -- `marks::first_pass` meets its contract: up to the index reached the states are those of the first pass, and from there on as they were.
-use mathlib.Core.Path.{_≡_, refl, sym, ap, _∙_}
-use mathlib.Core.List.{List}
-use Prim.Native.Nat.{ℕ, _+_, _-_, _<_, _≤_}
+use mathlib.Core.Path.{_≡_}
+use Prim.Native.Nat.{_-_, _≤_}
 use native.Mathlib.Omega.{arith}
 use borrow.Author.Needs.{needs}
 use lib.ListN.{length}
@@ -11,9 +10,6 @@ use Rattle.opening.proofs.Arrays.{bytes-of-array}
 use Rattle.opening.proofs.Passes.{PassedTo, passed-start, first-step, first-end}
 use Rattle.opening.proofs.marks.first_pass.Statement.{statement}
 use Rattle.opening.proofs.marks.first_pass.Tie as tie
-use Rattle.opening.proofs.marks.first_pass.Reads as reads
-use Rattle.opening.proofs.marks.first_pass.Lts as lts
-use Rattle.opening.proofs.marks.clear_upper.Reads as clear-upper-reads
 
 abbrev Inv-loop : tie.InvT-loop
 Inv-loop opened heads marked₀ index₀ marked index = (index ≤ 126) × PassedTo (firstPass (statesOf marked₀) (statesOf opened) heads) marked₀ marked index
@@ -43,11 +39,10 @@ loop-again : tie.Need-loop-again Inv-loop μ-loop
 loop-again c =
     let at = c .before .before in
     let start = at .before in
-    let args = start .args in
-    (
+    let args = start .args in (
       omega arith,
       rw (c .clear-upper .ensures)
-      (first-step (args .map) (args .opened) (args .t3) (long start) (start .good .1 .0 .1 .0 .1) (start .good .1 .1 .0 .1 .0 .1) (at .loop .marked) (at .loop .index) (omega arith) (at .loop .inv .1)),
+          (first-step (args .map) (args .opened) (args .t3) (long start) (start .good .1 .0 .1 .0 .1) (start .good .1 .1 .0 .1 .0 .1) (at .loop .marked) (at .loop .index) (omega arith) (at .loop .inv .1)),
     )
 
 returns : tie.Need-returns Inv-loop μ-loop
@@ -55,8 +50,7 @@ returns c =
     let at = c .before in
     let start = at .before in
     let args = start .args in
-    let end : at .loop .index ≡ 126 = omega arith in
-    (
+    let end : at .loop .index ≡ 126 = omega arith in (
       first-end (args .map) (args .opened) (args .t3) (long start) (start .good .1 .0 .1 .0 .1) (start .good .1 .1 .0 .1 .0 .1) (rw end at (at .loop .inv .1)),
       at .loop .inv .1 .spare,
     )

@@ -2,17 +2,10 @@
 use mathlib.Core.Path.{_≡_, sym, ap, _∙_}
 use borrow.Author.Needs.{needs}
 use borrow.Author.Tests.{not-true, not-false}
-use Rattle.flash.specs.Flash.{allOnes}
 use Rattle.sector.specs.Map.{stateAt}
 use Rattle.opening.specs.Reading.{isEmpty}
 use Rattle.opening.proofs.marks.is_free.Statement.{statement}
 use Rattle.opening.proofs.marks.is_free.Tie as tie
-use Rattle.opening.proofs.marks.is_free.Reads as reads
-use Rattle.opening.proofs.marks.is_free.Lts as lts
-use Rattle.flash.proofs.all_ones.Reads as all-ones-reads
-use Rattle.load.proofs.entry_at.Reads as entry-at-reads
-use Rattle.opening.proofs.marks.is_empty.Reads as is-empty-reads
-use Rattle.sector.proofs.map.state_at.Reads as state-at-reads
 
 empty : (c : tie.After-is-empty) → let args = c .before .before .before .args in isEmpty (stateAt (args .map) (args .index)) ≡ c .is-empty .result
 empty c = sym (c .is-empty .ensures ∙ ap isEmpty (c .before .state-at .ensures))

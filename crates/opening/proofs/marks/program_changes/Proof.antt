@@ -1,7 +1,6 @@
 -- `marks::program_changes` meets its contract: what is left to program, run on the image as it is, is the whole run on the image as it was.
-use mathlib.Core.Path.{_≡_, refl, sym, ap, _∙_}
-use mathlib.Core.List.{List}
-use Prim.Native.Nat.{ℕ, suc, _+_, _-_, _≤_}
+use mathlib.Core.Path.{_≡_, sym, _∙_}
+use Prim.Native.Nat.{suc, _+_, _-_, _≤_}
 use native.Mathlib.Numerals.{add-one}
 use native.Mathlib.Omega.{arith}
 use borrow.Author.Needs.{needs}
@@ -11,9 +10,6 @@ use Rattle.opening.specs.Opening.{changedUnits}
 use Rattle.opening.proofs.Passes.{run-changed}
 use Rattle.opening.proofs.marks.program_changes.Statement.{statement}
 use Rattle.opening.proofs.marks.program_changes.Tie as tie
-use Rattle.opening.proofs.marks.program_changes.Reads as reads
-use Rattle.opening.proofs.marks.program_changes.Lts as lts
-use Rattle.opening.proofs.marks.program_unit.Reads as program-unit-reads
 
 abbrev Inv-loop : tie.InvT-loop
 Inv-loop image₀ old new unit₀ image unit =
@@ -40,12 +36,11 @@ loop-again c =
     let at = programmed .before .before .before in
     let args = at .before .before .args in
     let unit = at .loop .unit in
-    let left : 8 - unit ≡ suc (8 - (unit + 1)) = omega arith in
-    (
+    let left : 8 - unit ≡ suc (8 - (unit + 1)) = omega arith in (
       omega arith,
       programmed .program-unit .kept .0 ∙ at .loop .inv .1,
       rw (programmed .program-unit .ensures, add-one unit)
-      (sym (run-changed unit (8 - suc unit) (args .old) (args .new) (at .loop .image)) ∙ (rw (left, add-one unit) at (at .loop .inv .2))),
+          (sym (run-changed unit (8 - suc unit) (args .old) (args .new) (at .loop .image)) ∙ (rw (left, add-one unit) at (at .loop .inv .2))),
     )
 
 same-length : tie.Need-same-length Inv-loop μ-loop

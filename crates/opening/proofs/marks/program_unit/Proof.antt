@@ -1,19 +1,13 @@
 -- `marks::program_unit` meets its contract: a unit that differs is one unit of a write.
 use mathlib.Core.Path.{_≡_, sym, ap, _∙_}
 use mathlib.Core.List.{List}
-use Prim.Native.Nat.{ℕ, _+_, _-_, _*_, _≤_}
+use Prim.Native.Nat.{ℕ, _+_, _-_, _*_}
 use native.Mathlib.Omega.{arith}
 use borrow.Author.Needs.{needs}
-use lib.ListN.{length, take, drop}
-use Rattle.flash.specs.Flash.{Unit4, units, run}
-use Rattle.opening.specs.Opening.{mapUnit}
+use Rattle.flash.specs.Flash.{Unit4, run}
 use Rattle.opening.proofs.Passes.{take-mapUnit}
 use Rattle.opening.proofs.marks.program_unit.Statement.{statement}
 use Rattle.opening.proofs.marks.program_unit.Tie as tie
-use Rattle.opening.proofs.marks.program_unit.Reads as reads
-use Rattle.opening.proofs.marks.program_unit.Lts as lts
-use Rattle.flash.proofs.write_aligned.Reads as write-aligned-reads
-use Rattle.opening.proofs.marks.same_unit.Reads as same-unit-reads
 
 same-unit-requires : tie.Need-same-unit-requires
 same-unit-requires c κs = search needs

@@ -1,24 +1,22 @@
 -- `marks::same_unit` meets its contract: the bytes of a unit are compared one after the other, and the first that differs decides.
-use mathlib.Core.Path.{_≡_, sym, ap₂, _∙_}
+use mathlib.Core.Path.{_≡_, sym, ap₂}
 use mathlib.Core.Bool.{and-true}
 use mathlib.Core.List.{List, [], _∷_}
-use Prim.Native.Nat.{ℕ, _+_, _*_, _≤_, _<_}
+use Prim.Native.Nat.{ℕ, _+_, _*_}
 use native.Mathlib.Omega.{arith}
 use borrow.Author.Needs.{needs}
 use borrow.Author.Tests.{eq-eqb, ne-eqb}
-use lib.ListN.{length, getD}
+use lib.ListN.{getD}
 use Rattle.opening.specs.Opening.{sameBytes, mapUnit}
 use Rattle.opening.proofs.Passes.{unit-bytes}
 use Rattle.opening.proofs.marks.same_unit.Statement.{statement}
 use Rattle.opening.proofs.marks.same_unit.Tie as tie
-use Rattle.opening.proofs.marks.same_unit.Reads as reads
-use Rattle.opening.proofs.marks.same_unit.Lts as lts
 
 -- a unit of each map, byte by byte
 bytes : (c : tie.Start)
     → let byte : List ℕ → ℕ → ℕ = λ map k. getD map (4 * c .args .unit + k) 0 in
-      let four : List ℕ → List ℕ = λ map. getD map (4 * c .args .unit) 0 ∷ byte map 1 ∷ byte map 2 ∷ byte map 3 ∷ [] in
-      sameBytes (mapUnit (c .args .unit) (c .args .t1)) (mapUnit (c .args .unit) (c .args .t2)) ≡ sameBytes (four (c .args .t1)) (four (c .args .t2))
+    let four : List ℕ → List ℕ = λ map. getD map (4 * c .args .unit) 0 ∷ byte map 1 ∷ byte map 2 ∷ byte map 3 ∷ [] in
+    sameBytes (mapUnit (c .args .unit) (c .args .t1)) (mapUnit (c .args .unit) (c .args .t2)) ≡ sameBytes (four (c .args .t1)) (four (c .args .t2))
 bytes c =
     ap₂ (λ (xs ys : List ℕ). sameBytes xs ys) (unit-bytes (c .args .t1) (c .args .unit) (omega arith)) (unit-bytes (c .args .t2) (c .args .unit) (omega arith))
 

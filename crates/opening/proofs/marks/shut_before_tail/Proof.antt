@@ -3,10 +3,6 @@ use mathlib.Core.Path.{sym, _∙_}
 use borrow.Author.Needs.{needs}
 use Rattle.opening.proofs.marks.shut_before_tail.Statement.{statement}
 use Rattle.opening.proofs.marks.shut_before_tail.Tie as tie
-use Rattle.opening.proofs.marks.shut_before_tail.Reads as reads
-use Rattle.opening.proofs.marks.shut_before_tail.Lts as lts
-use Rattle.opening.proofs.marks.shut_to.Reads as shut-to-reads
-use Rattle.opening.proofs.marks.tail_start.Reads as tail-start-reads
 
 tail-start-requires : tie.Need-tail-start-requires
 tail-start-requires c κs = search needs

@@ -6,11 +6,6 @@ use Rattle.sector.specs.declared.EntryMapState.the-variants.{Written}
 use Rattle.sector.specs.Map.{stateAt, sameState}
 use Rattle.opening.proofs.marks.shut_entry.Statement.{statement}
 use Rattle.opening.proofs.marks.shut_entry.Tie as tie
-use Rattle.opening.proofs.marks.shut_entry.Reads as reads
-use Rattle.opening.proofs.marks.shut_entry.Lts as lts
-use Rattle.opening.proofs.marks.is_written.Reads as is-written-reads
-use Rattle.sector.proofs.map.mark_range.Reads as mark-range-reads
-use Rattle.sector.proofs.map.state_at.Reads as state-at-reads
 
 written : (c : tie.After-is-written) → let args = c .before .before .args in sameState (stateAt (args .map) (args .index)) Written ≡ c .is-written .result
 written c = sym (c .is-written .ensures ∙ ap (λ (s : EntryMapState). sameState s Written) (c .before .state-at .ensures))

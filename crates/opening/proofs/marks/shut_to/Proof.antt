@@ -1,7 +1,6 @@
 -- `marks::shut_to` meets its contract: up to the index reached the states are shut, and from there on as they were.
-use mathlib.Core.Path.{_≡_, refl, sym, ap, _∙_}
-use mathlib.Core.List.{List}
-use Prim.Native.Nat.{ℕ, _+_, _-_, _<_, _≤_}
+use mathlib.Core.Path.{_≡_}
+use Prim.Native.Nat.{_-_, _≤_}
 use native.Mathlib.Omega.{arith}
 use borrow.Author.Needs.{needs}
 use lib.ListN.{length}
@@ -11,9 +10,6 @@ use Rattle.opening.proofs.Arrays.{bytes-of-array}
 use Rattle.opening.proofs.Passes.{PassedTo, passed-start, shut-step, shut-end}
 use Rattle.opening.proofs.marks.shut_to.Statement.{statement}
 use Rattle.opening.proofs.marks.shut_to.Tie as tie
-use Rattle.opening.proofs.marks.shut_to.Reads as reads
-use Rattle.opening.proofs.marks.shut_to.Lts as lts
-use Rattle.opening.proofs.marks.shut_entry.Reads as shut-entry-reads
 
 abbrev Inv-loop : tie.InvT-loop
 Inv-loop end marked₀ index₀ marked index = (index ≤ end) × PassedTo (shutTo end (statesOf marked₀)) marked₀ marked index
@@ -39,8 +35,7 @@ loop-less c = search needs
 loop-again : tie.Need-loop-again Inv-loop μ-loop
 loop-again c =
     let at = c .before .before in
-    let args = at .before .args in
-    (
+    let args = at .before .args in (
       omega arith,
       rw (c .shut-entry .ensures) (shut-step (args .end) (args .map) (at .loop .marked) (at .loop .index) (long (at .before)) (omega arith) (omega arith) (at .loop .inv .1)),
     )

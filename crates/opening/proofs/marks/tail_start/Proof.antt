@@ -1,8 +1,7 @@
 -- `marks::tail_start` meets its contract: from the start on all is free, and where the loop stops the entry before it is not.
-use mathlib.Core.Path.{_≡_, refl, sym, ap, _∙_}
-use mathlib.Core.Bool.{Bool, true, false, _&&_, and-true}
-use mathlib.Core.List.{List, [], _∷_}
-use Prim.Native.Nat.{ℕ, suc, _+_, _-_, _<_, _≤_}
+use mathlib.Core.Path.{_≡_, sym, _∙_}
+use mathlib.Core.Bool.{true, and-true}
+use Prim.Native.Nat.{suc, _+_, _-_, _<_, _≤_}
 use native.Mathlib.Omega.{arith}
 use borrow.Author.Needs.{needs}
 use borrow.Author.Tests.{not-true, not-false}
@@ -11,15 +10,12 @@ use Rattle.flash.specs.Flash.{allOnes}
 use Rattle.sector.specs.Layout.{entryAt, entriesOf}
 use Rattle.sector.specs.Map.{statesOf}
 use Rattle.sector.proofs.Laws.{length-statesOf}
-use Rattle.opening.specs.Reading.{isEmpty, isFreeTail}
+use Rattle.opening.specs.Reading.{isFreeTail}
 use Rattle.opening.proofs.Entries.{length-entries}
 use Rattle.opening.proofs.FreeTail.{shut-none, shut-behind}
 use Rattle.opening.proofs.Progress.{states-from, entries-from}
 use Rattle.opening.proofs.marks.tail_start.Statement.{statement}
 use Rattle.opening.proofs.marks.tail_start.Tie as tie
-use Rattle.opening.proofs.marks.tail_start.Reads as reads
-use Rattle.opening.proofs.marks.tail_start.Lts as lts
-use Rattle.opening.proofs.marks.is_free.Reads as is-free-reads
 
 abbrev Inv-loop : tie.InvT-loop
 Inv-loop image map start₀ start = (start ≤ 126) × (isFreeTail (drop start (statesOf map)) (drop start (entriesOf image)) ≡ true)
@@ -43,9 +39,9 @@ is-free-requires c κs = search needs
 -- one entry more: the tail is free from it on where it is
 tail-next : (c : tie.After-is-free Inv-loop μ-loop)
     → let at = c .before .before in
-      let args = at .before .before .args in
-      let index = at .loop .start - 1 in
-      isFreeTail (drop index (statesOf (args .map))) (drop index (entriesOf (args .image .now))) ≡ c .is-free .result
+    let args = at .before .before .args in
+    let index = at .loop .start - 1 in
+    isFreeTail (drop index (statesOf (args .map))) (drop index (entriesOf (args .image .now))) ≡ c .is-free .result
 tail-next c =
     let at = c .before .before in
     let args = at .before .before .args in
@@ -66,12 +62,11 @@ returns c =
     let map = args .map in
     let index = at .loop .start - 1 in
     let long : length map ≡ 32 = omega arith in
-    let next : suc index ≡ at .loop .start = omega arith in
-    (
+    let next : suc index ≡ at .loop .start = omega arith in (
       at .loop .inv .0,
       rw (← next)
-      (shut-behind index (statesOf map) (entriesOf image) (rw (length-statesOf map long) (omega arith)) (rw (length-entries image) (omega arith))
-      (tail-next (c .before) ∙ not-true (c .before .is-free .result) (c .if1 .taken)) (rw next (at .loop .inv .1))),
+          (shut-behind index (statesOf map) (entriesOf image) (rw (length-statesOf map long) (omega arith)) (rw (length-entries image) (omega arith))
+          (tail-next (c .before) ∙ not-true (c .before .is-free .result) (c .if1 .taken)) (rw next (at .loop .inv .1))),
     )
 
 sub-start : tie.Need-sub-start Inv-loop μ-loop

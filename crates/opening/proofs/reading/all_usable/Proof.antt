@@ -1,16 +1,14 @@
 -- `reading::all_usable` meets its contract: what is left to test decides as the whole does, since all before is usable.
-use mathlib.Core.Path.{_≡_, refl, sym, ap, _∙_}
+use mathlib.Core.Path.{_≡_, sym, _∙_}
 use mathlib.Core.Bool.{_&&_}
 use mathlib.Core.List.{List}
 use Prim.Native.Nat.{ℕ, suc, _+_, _-_, _<_, _≤_}
 use native.Mathlib.Nat.{add-zero, sub-zero}
-use native.Mathlib.Numerals.{add-one}
 use native.Mathlib.Omega.{arith}
 use borrow.Author.Needs.{needs}
 use borrow.Author.Tests.{not-true, not-false}
-use lib.ListN.{length, drop, getD}
+use lib.ListN.{length, drop}
 use lib.Seq.{drop-cons}
-use Rattle.sector.specs.declared.EntryMapState.{EntryMapState}
 use Rattle.sector.specs.declared.EntryMapState.the-variants.{Empty}
 use Rattle.sector.specs.Map.{stateAt, statesOf}
 use Rattle.sector.proofs.Laws.{length-statesOf, getD-statesOf}
@@ -47,9 +45,9 @@ is-usable-requires c κs = search needs
 -- in a turn: the next entry, and then what is left
 next : (c : tie.After-is-usable Inv-loop μ-loop)
     → let args = c .before .before .before .before .args in
-      let k = c .before .before .before .loop .k in
-      usable (args .count) (drop (args .first) (statesOf (args .map)))
-      ≡ (c .is-usable .result && usable (args .count - (k + 1)) (drop (args .first + (k + 1)) (statesOf (args .map))))
+    let k = c .before .before .before .loop .k in
+    usable (args .count) (drop (args .first) (statesOf (args .map)))
+    ≡ (c .is-usable .result && usable (args .count - (k + 1)) (drop (args .first + (k + 1)) (statesOf (args .map))))
 next c =
     let args = c .before .before .before .before .args in
     let at = c .before .before .before .loop in

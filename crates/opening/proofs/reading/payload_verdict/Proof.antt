@@ -1,8 +1,7 @@
 -- `reading::payload_verdict` meets its contract: each `return` is the first rule of the payload that refuses, or the covered entries, or none.
-use mathlib.Core.Path.{_≡_, refl, sym, ap, ap₂, _∙_}
-use mathlib.Core.Bool.{Bool, true, false, not}
-use mathlib.Core.List.{List}
-use Prim.Native.Nat.{ℕ, suc, _+_, _-_, _*_, _<_, _≤_}
+use mathlib.Core.Path.{_≡_, sym, ap, _∙_}
+use mathlib.Core.Bool.{true, false, not}
+use Prim.Native.Nat.{suc, _+_, _-_, _*_, _≤_}
 use native.Mathlib.Numerals.{add-one}
 use native.Mathlib.Omega.{arith}
 use borrow.Author.Needs.{needs}
@@ -10,18 +9,11 @@ use borrow.Author.Tests.{lt-ltb, le-ltb, eq-eqb, ne-eqb, not-true, not-false}
 use lib.ListN.{take, drop}
 use Rattle.crc.specs.Crc.{crc32}
 use Rattle.sector.specs.Item.{crcStart}
-use Rattle.sector.specs.Layout.{entrySize, entriesOf, entryAddress, sizeOf, storedPayloadCrc}
+use Rattle.sector.specs.Layout.{entrySize, entriesOf, sizeOf}
 use Rattle.opening.specs.Reading.{covered, joined, sizeTooBig, payloadCrcWrong}
 use Rattle.opening.proofs.Entries.{take-joined}
 use Rattle.opening.proofs.reading.payload_verdict.Statement.{statement}
 use Rattle.opening.proofs.reading.payload_verdict.Tie as tie
-use Rattle.opening.proofs.reading.payload_verdict.Reads as reads
-use Rattle.opening.proofs.reading.payload_verdict.Lts as lts
-use Rattle.crc.proofs.crc32.Reads as crc32-reads
-use Rattle.load.proofs.size_of.Reads as size-of-reads
-use Rattle.opening.proofs.reading.all_usable.Reads as all-usable-reads
-use Rattle.page.proofs.write.entry_address.Reads as entry-address-reads
-use Rattle.sector.proofs.bytes.number_at.Reads as number-at-reads
 
 too-big : (c : tie.Then1) → sizeTooBig (c .before .before .before .args .t4) ≡ true
 too-big c =
@@ -38,8 +30,8 @@ sized c =
 -- the payload's CRC is that of one run of bytes behind the header
 payload-crc : (c : tie.After-crc32)
     → let args = c .before .before .before .before .before .before .args in
-      crc32 crcStart (take (sizeOf (args .t4)) (joined (take (covered (args .t4)) (drop (args .index + 1) (entriesOf (args .image .now))))))
-      ≡ c .crc32 .result
+    crc32 crcStart (take (sizeOf (args .t4)) (joined (take (covered (args .t4)) (drop (args .index + 1) (entriesOf (args .image .now))))))
+    ≡ c .crc32 .result
 payload-crc c =
     let placed = c .before .before in
     let sized = placed .before in
@@ -57,7 +49,7 @@ payload-crc c =
 
 payload-wrong : (c : tie.Then2)
     → let args = c .before .before .before .before .before .before .before .before .before .args in
-      payloadCrcWrong (args .t4) (take (covered (args .t4)) (drop (args .index + 1) (entriesOf (args .image .now)))) ≡ true
+    payloadCrcWrong (args .t4) (take (covered (args .t4)) (drop (args .index + 1) (entriesOf (args .image .now)))) ≡ true
 payload-wrong c =
     let crc = payload-crc (c .before .before .before) in
     let stored = c .before .number-at .ensures in
@@ -65,7 +57,7 @@ payload-wrong c =
 
 payload-right : (c : tie.Else2)
     → let args = c .before .before .before .before .before .before .before .before .before .args in
-      payloadCrcWrong (args .t4) (take (covered (args .t4)) (drop (args .index + 1) (entriesOf (args .image .now)))) ≡ false
+    payloadCrcWrong (args .t4) (take (covered (args .t4)) (drop (args .index + 1) (entriesOf (args .image .now)))) ≡ false
 payload-right c =
     let crc = payload-crc (c .before .before .before) in
     let stored = c .before .number-at .ensures in
