@@ -14,3 +14,4 @@ pub mod Steps
 pub mod FreeTail
 pub mod Progress
 pub mod Passes
+pub mod Unique
