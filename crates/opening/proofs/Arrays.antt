@@ -2,7 +2,6 @@
 -- Assumes nothing.
 use mathlib.Core.List.{List, [], _∷_}
 use Prim.Native.Nat.{ℕ}
-use base.Fml.{Fml}
 use mir.Syntax.{w8}
 use mir.Val.{Val}
 use denote.Array.{each}

@@ -13,3 +13,5 @@ pub mod Entries
 pub mod Steps
 pub mod FreeTail
 pub mod Progress
+pub mod Passes
+pub mod Unique

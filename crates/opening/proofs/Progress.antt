@@ -1,15 +1,15 @@
 -- What the walk's loop has done up to an index, and what is left of it: in the map, of the refused headers, of the list.
 -- Assumes nothing.
 use mathlib.Core.Path.{_≡_, refl, sym, ap, ap₂, _∙_}
-use mathlib.Core.Bool.{Bool, true, false, _&&_, cond, and-eq-true-iff, false≢true}
+use mathlib.Core.Bool.{Bool, true, false, and-eq-true-iff, false≢true}
 use mathlib.Core.List.{List, [], _∷_, _++_, append-assoc, append-nil}
-use Prim.Native.Nat.{ℕ, zero, suc, _+_, _-_, _*_, _<_, _≤_}
+use Prim.Native.Nat.{ℕ, zero, suc, _+_, _-_, _<_, _≤_}
 use native.Mathlib.Nat.{le-of-suc-le-suc, not-suc-le-zero, le-refl, add-zero, sub-zero}
 use native.Mathlib.Numerals.{add-one}
 use native.Mathlib.Omega.{arith}
 use lib.Dec.{eqb}
-use lib.ListN.{length, take, drop, getD, set, replicate, length-drop, length-take, length-set, length-replicate, replicate-append-replicate, length-append, take-append-drop, drop-of-length-le}
-use lib.Seq.{drop-cons, take-add, drop-drop, take-at, drop-at, take-set-le, drop-set-add, take-all, set-append-seam}
+use lib.ListN.{length, take, drop, set, replicate, length-drop, length-set, length-replicate, length-append, take-append-drop, drop-of-length-le}
+use lib.Seq.{drop-cons, take-add, drop-drop, take-at, take-set-le, drop-set-add, take-all, set-append-seam}
 use Rattle.flash.proofs.Laws.{Bytes}
 use Rattle.page.specs.declared.Listed.{Listed}
 use Rattle.page.specs.Record.{noItem, padded}
@@ -19,9 +19,9 @@ use Rattle.sector.specs.Item.{hashOfItem}
 use Rattle.sector.specs.Layout.{entriesPerPage, entryAt, entriesOf, namespaceOf}
 use Rattle.sector.specs.Map.{unpack, statesOf, stateAt, markRange}
 use Rattle.sector.proofs.Laws.{length-statesOf, getD-statesOf, length-markRange}
-use Rattle.sector.proofs.Marks.{marked, both, length-marked, take-marked, drop-marked, marked-erased, marked-none, statesOf-markRange, unpack-markRange, bytes-markRange}
+use Rattle.sector.proofs.Marks.{marked, both, take-marked, drop-marked, marked-erased, statesOf-markRange, unpack-markRange, bytes-markRange}
 use Rattle.opening.specs.declared.Listing.{Listing}
-use Rattle.opening.specs.Reading.{Verdict, NotAnItem, RefusedEntry, RefusedItem, Kept, Item, item, isUsable, usable, verdictAt, stepsOver, markOf, markBehind, walk, withKept, keptFrom}
+use Rattle.opening.specs.Reading.{Verdict, NotAnItem, RefusedEntry, RefusedItem, Kept, Item, isUsable, usable, verdictAt, stepsOver, markOf, markBehind, walk, withKept, keptFrom}
 use Rattle.opening.specs.Opening.{isRefusedItem, refusedHeaders, listedItems}
 use Rattle.opening.specs.Steps.{markedBy, listingOf, withItem, listedBy}
 use Rattle.opening.proofs.Entries.{length-entries, getD-entries}
@@ -57,12 +57,12 @@ abbrev pub verdictOf : List ℕ → List ℕ → ℕ → Verdict
 verdictOf image map i = verdictAt (stateAt map i) (entryAt image i) (drop (i + 1) (statesOf map)) (drop (i + 1) (entriesOf image))
 
 module _ (image map : List ℕ) (i : ℕ) (long : length map ≡ 32) (inside : i < 126) where
-  states-from : drop i (statesOf map) ≡ stateAt map i ∷ drop (i + 1) (statesOf map)
+  pub states-from : drop i (statesOf map) ≡ stateAt map i ∷ drop (i + 1) (statesOf map)
   states-from =
       let fits : i < length (statesOf map) = rw (length-statesOf map long) inside in
       rw (drop-cons (statesOf map) i Empty fits, getD-statesOf map i long inside, add-one i)
 
-  entries-from : drop i (entriesOf image) ≡ entryAt image i ∷ drop (i + 1) (entriesOf image)
+  pub entries-from : drop i (entriesOf image) ≡ entryAt image i ∷ drop (i + 1) (entriesOf image)
   entries-from =
       let fits : i < length (entriesOf image) = rw (length-entries image) inside in
       rw (drop-cons (entriesOf image) i [] fits, getD-entries image i inside, add-one i)

@@ -1,22 +1,22 @@
 -- The walk as a loop takes it, from index to index: k entries stepped over are k entries dropped.
 -- Assumes nothing.
 use mathlib.Core.Path.{_≡_, refl, sym, ap, _∙_}
-use mathlib.Core.Bool.{Bool, true, false, _&&_, _||_, not, cond}
+use mathlib.Core.Bool.{Bool, true, false, _||_, not, cond}
 use mathlib.Core.List.{List, [], _∷_, _++_}
 use mathlib.Core.Option.{Option, none, some}
-use Prim.Native.Nat.{ℕ, zero, suc, _+_, _-_, _<_, _≤_, zero-le}
-use native.Mathlib.Nat.{le-of-suc-le-suc, not-suc-le-zero, add-zero, add-suc, suc-add, le-refl}
+use Prim.Native.Nat.{ℕ, zero, suc, _+_, _≤_, zero-le}
+use native.Mathlib.Nat.{le-of-suc-le-suc, not-suc-le-zero, add-zero, add-suc, suc-add}
 use native.Mathlib.Omega.{arith}
 use lib.Dec.{eqb, ltb}
 use borrow.Author.Tests.{ltb-false}
-use lib.ListN.{length, take, drop, getD, replicate}
+use lib.ListN.{length, take, drop, replicate}
 use Rattle.sector.specs.declared.EntryMapState.{EntryMapState}
 use Rattle.sector.specs.declared.EntryMapState.the-variants.{Empty, Written, Erased, Illegal}
 use Rattle.flash.specs.Flash.{allOnes}
 use Rattle.sector.specs.Item.{crcRight}
 use Rattle.sector.specs.Layout.{spanOf}
-use Rattle.opening.specs.Reading.{Reason, AllOnes, CrcWrong, SpanOffPage, firstRule, spanOffPage, Verdict, NotAnItem, RefusedEntry, RefusedItem, Kept, Item, covered, headerRefusal, payloadRefusal, usable, itemVerdict, headerVerdict, verdictAt, stepsOver, markOf, markBehind, walk, withKept, keptFrom}
-use Rattle.opening.specs.Opening.{isRefusedItem, refusedHeaders}
+use Rattle.opening.specs.Reading.{Reason, AllOnes, CrcWrong, SpanOffPage, spanOffPage, Kept, covered, headerRefusal, payloadRefusal, usable, itemVerdict, headerVerdict, verdictAt, stepsOver, walk, keptFrom}
+use Rattle.opening.specs.Opening.{refusedHeaders}
 
 walk-mark : (mark : EntryMapState) (states : List EntryMapState) (entries : List (List ℕ))
     → walk zero mark states entries ≡ walk zero Erased states entries

@@ -1,19 +1,23 @@
--- A step of the walk as the code takes it: what the verdict at an entry does to the map, and to the list of kept items.
+-- The steps that the code takes: what the verdict at an entry does to the map, and to the list of kept items; the entries before the
+-- free tail shut, by where it starts; the record of a header, a map and a list.
 --
 -- Assumes nothing.
 use mathlib.Core.Bool.{cond}
-use mathlib.Core.List.{List}
+use mathlib.Core.List.{List, _++_, map}
 use Prim.Native.Nat.{ℕ, _+_}
 use lib.Dec.{eqb}
-use lib.ListN.{length, set}
+use lib.ListN.{length, take, drop, set}
 use Rattle.page.specs.declared.Listed.{Listed}
+use Rattle.page.specs.declared.ThinPage.{ThinPage}
 use Rattle.page.specs.Record.{padded}
+use Rattle.sector.specs.declared.EntryMapState.{EntryMapState}
 use Rattle.sector.specs.declared.EntryMapState.the-variants.{Written, Erased}
+use Rattle.sector.specs.Header.{stateOfWord}
 use Rattle.sector.specs.Item.{hashOfItem}
-use Rattle.sector.specs.Layout.{namespaceOf}
-use Rattle.sector.specs.Map.{markRange}
+use Rattle.sector.specs.Layout.{stateWord, sequenceOf, versionOf, storedHeaderCrc, namespaceOf}
+use Rattle.sector.specs.Map.{statesOf, countIn, markRange}
 use Rattle.opening.specs.declared.Listing.{Listing}
-use Rattle.opening.specs.Reading.{Verdict, NotAnItem, RefusedEntry, RefusedItem, Kept}
+use Rattle.opening.specs.Reading.{Verdict, NotAnItem, RefusedEntry, RefusedItem, Kept, shut}
 
 -- the map, with the mark that the verdict at entry i gives
 abbrev pub markedBy : Verdict → ℕ → List ℕ → List ℕ
@@ -21,6 +25,10 @@ markedBy NotAnItem i map = map
 markedBy (RefusedEntry reason) i map = markRange Erased i 1 map
 markedBy (RefusedItem reason k) i map = markRange Erased i (k + 1) map
 markedBy (Kept k) i map = markRange Written i (k + 1) map
+
+-- the first n states, shut
+abbrev pub shutTo : ℕ → List EntryMapState → List EntryMapState
+shutTo n states = map shut (take n states) ++ drop n states
 
 -- places in use, as the code holds them
 abbrev pub listingOf : List Listed → Listing
@@ -42,3 +50,18 @@ listedBy NotAnItem i entry listing = listing
 listedBy (RefusedEntry reason) i entry listing = listing
 listedBy (RefusedItem reason k) i entry listing = listing
 listedBy (Kept k) i entry listing = withItem i entry listing
+
+-- the header's fields, the map with its counts, the list
+unfoldable pub recordOf : List ℕ → List ℕ → Listing → ThinPage
+recordOf image map listing =
+    record {
+      state = stateOfWord (stateWord image);
+      sequence = sequenceOf image;
+      version = versionOf image;
+      crc = storedHeaderCrc image;
+      map = map;
+      used = countIn Written (statesOf map);
+      erased = countIn Erased (statesOf map);
+      len = listing .len;
+      list = listing .list;
+    }

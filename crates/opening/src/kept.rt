@@ -31,7 +31,7 @@ fn hash_of(entry: [u8; 32]) -> u32
 }
 
 // No place in use.
-pub fn empty() -> Listing
+pub(crate) fn empty() -> Listing
     ensures { λ r. ⌜ r ≡ listingOf [] ⌝ }
 {
     let place = Listed { hash: 0, index: 0 };
@@ -52,7 +52,7 @@ fn with_item(listing: Listing, entry: [u8; 32], index: usize) -> Listing
     let hash = hash_of(entry);
     let len = listing.len;
     let mut list = listing.list;
-    list[len] = Listed {
+    list[len as usize] = Listed {
         hash,
         index: index as u8,
     };
@@ -60,7 +60,7 @@ fn with_item(listing: Listing, entry: [u8; 32], index: usize) -> Listing
 }
 
 // One place more where the verdict at an entry keeps an item.
-pub fn listed_by(listing: Listing, image: &[u8], index: usize, verdict: Verdict) -> Listing
+pub(crate) fn listed_by(listing: Listing, image: &[u8], index: usize, verdict: Verdict) -> Listing
     requires { ⌜ (length (now image) ≡ sectorSize) × (index < entriesPerPage) × (listing .len < entriesPerPage) ⌝ }
     ensures { λ r. ⌜ r ≡ listedBy verdict index (entryAt (now (image .entry)) index) listing ⌝ }
 {

@@ -1,27 +1,23 @@
 // The verdict at an entry (01, 'Opening'): each rule in its order, and the reason where one refuses.
 ghost use mathlib.Core.Path.{_≡_};
-ghost use mathlib.Core.Bool.{true, false, cond};
 ghost use mathlib.Core.List.{[], _∷_};
-ghost use Prim.Native.Nat.{_+_, _*_, _≤_, _<_};
+ghost use Prim.Native.Nat.{_+_, _≤_, _<_};
 ghost use lib.ListN.{length, take, drop};
 ghost use Rattle.sector.specs.Layout.{sectorSize, entriesPerPage, entryAt, entriesOf, spanOf};
 ghost use Rattle.sector.specs.Map.{stateAt, statesOf};
-ghost use Rattle.opening.specs.Reading.{covered, isUsable, usable, firstRule, sizeTooBig, payloadCrcWrong, headerRefusal, itemVerdict, headerVerdict, verdictAt};
+ghost use Rattle.opening.specs.Reading.{covered, isUsable, usable, firstRule, sizeTooBig, payloadCrcWrong, itemVerdict, verdictAt};
 use crate::Reason;
 use crate::Verdict;
+use page::write;
+use sector::CRC_START;
+use sector::ENTRIES_PER_PAGE;
 use sector::EntryMapState;
 use sector::bytes;
 use sector::item;
 use sector::map;
 use sector::types;
 
-const ENTRIES_PER_PAGE: usize = 126;
-
 const ENTRY_SIZE: usize = 32;
-
-const ITEMS_OFFSET: usize = 64;
-
-const CRC_START: u32 = 0xFFFFFFFF;
 
 fn is_usable(state: EntryMapState) -> bool
     ensures { λ r. ⌜ r ≡ isUsable state ⌝ }
@@ -57,7 +53,7 @@ fn payload_verdict(image: &[u8], map: [u8; 32], index: usize, entry: [u8; 32]) -
     if size > ENTRY_SIZE * behind {
         return Verdict::RefusedItem(Reason::SizeTooBig, behind);
     }
-    let start = ITEMS_OFFSET + ENTRY_SIZE * (index + 1);
+    let start = write::entry_address(index + 1);
     let crc = crc::crc32(CRC_START, &image[start..start + size]);
     if crc != bytes::number_at(&entry, 28) {
         return Verdict::RefusedItem(Reason::PayloadCrcWrong, behind);
@@ -98,7 +94,7 @@ fn written_verdict(image: &[u8], map: [u8; 32], index: usize) -> Verdict
 }
 
 // The verdict at an entry, by the map and by the bytes of this entry and of those behind it.
-pub fn verdict_at(image: &[u8], map: [u8; 32], index: usize) -> Verdict
+pub(crate) fn verdict_at(image: &[u8], map: [u8; 32], index: usize) -> Verdict
     requires { ⌜ (length (now image) ≡ sectorSize) × (index < entriesPerPage) ⌝ }
     ensures { λ r. ⌜ r ≡ verdictAt (stateAt map index) (entryAt (now (image .entry)) index) (drop (index + 1) (statesOf map)) (drop (index + 1) (entriesOf (now (image .entry)))) ⌝ }
 {

@@ -1,6 +1,5 @@
 // The walk over the entries: from header to header, each verdict marked in the map and its item listed.
 ghost use mathlib.Core.Path.{_≡_};
-ghost use mathlib.Core.List.{[]};
 ghost use Prim.Native.Nat.{zero, _+_, _<_};
 ghost use lib.ListN.{length, drop};
 ghost use Rattle.sector.specs.Layout.{sectorSize, entriesPerPage, entriesOf};
@@ -12,10 +11,9 @@ use crate::Verdict;
 use crate::Walked;
 use crate::kept;
 use crate::reading;
+use sector::ENTRIES_PER_PAGE;
 use sector::EntryMapState;
 use sector::map;
-
-const ENTRIES_PER_PAGE: usize = 126;
 
 fn steps_over(verdict: Verdict) -> usize
     ensures { λ r. ⌜ r ≡ stepsOver verdict ⌝ }
@@ -57,7 +55,7 @@ fn marked_by(map: [u8; 32], index: usize, verdict: Verdict) -> [u8; 32]
 }
 
 // Walks from entry 0 to the last: what it leaves of the map, where it refused a payload item, and the items that it kept.
-pub fn walk(image: &[u8], map: [u8; 32]) -> Walked
+pub(crate) fn walk(image: &[u8], map: [u8; 32]) -> Walked
     requires { ⌜ length (now image) ≡ sectorSize ⌝ }
     ensures { λ r. ⌜ (statesOf (r .map) ≡ walk zero EntryMapState.Erased (statesOf map) (entriesOf (now (image .entry)))) × (drop entriesPerPage (unpack (r .map)) ≡ drop entriesPerPage (unpack map)) × (r .heads ≡ refusedHeaders zero (statesOf map) (entriesOf (now (image .entry)))) × (r .listing ≡ listingOf (listedItems (keptFrom zero zero (statesOf map) (entriesOf (now (image .entry)))))) ⌝ }
 {

@@ -1,5 +1,5 @@
 -- `kept::hash_of` meets its contract: an item's hash is that of its namespace, key and chunk.
-use mathlib.Core.Path.{_≡_, ap, _∙_}
+use mathlib.Core.Path.{ap, _∙_}
 use mathlib.Core.List.{List}
 use Prim.Native.Nat.{ℕ}
 use borrow.Author.Needs.{needs}
@@ -7,10 +7,6 @@ use Rattle.sector.specs.Item.{hashOf}
 use Rattle.sector.specs.Layout.{namespaceOf, chunkOf}
 use Rattle.opening.proofs.kept.hash_of.Statement.{statement}
 use Rattle.opening.proofs.kept.hash_of.Tie as tie
-use Rattle.opening.proofs.kept.hash_of.Reads as reads
-use Rattle.opening.proofs.kept.hash_of.Lts as lts
-use Rattle.opening.proofs.kept.key_of.Reads as key-of-reads
-use Rattle.sector.proofs.item.calculate_hash.Reads as calculate-hash-reads
 
 array-read-calculate-hash : tie.Need-array-read-calculate-hash
 array-read-calculate-hash c = search needs

@@ -1,16 +1,14 @@
 -- `kept::key_of` meets its contract: after k turns the first k bytes are the key's.
-use mathlib.Core.Path.{_≡_, sym, _∙_}
-use mathlib.Core.List.{List, _++_, append-nil}
-use Prim.Native.Nat.{ℕ, _+_, _-_, _≤_, _<_}
+use mathlib.Core.Path.{_≡_}
+use mathlib.Core.List.{_++_, append-nil}
+use Prim.Native.Nat.{_-_, _≤_, _<_}
 use native.Mathlib.Omega.{arith}
 use borrow.Author.Needs.{needs}
-use lib.ListN.{length, getD, take, drop, replicate, length-drop}
+use lib.ListN.{length, take, drop, replicate, length-drop}
 use lib.Seq.{getD-drop}
 use Rattle.load.proofs.Laws.{copied-next}
 use Rattle.opening.proofs.kept.key_of.Statement.{statement}
 use Rattle.opening.proofs.kept.key_of.Tie as tie
-use Rattle.opening.proofs.kept.key_of.Reads as reads
-use Rattle.opening.proofs.kept.key_of.Lts as lts
 
 abbrev Inv-loop : tie.InvT-loop
 Inv-loop entry key₀ k₀ key k = (k ≤ 16) × (key ≡ take k (drop 8 entry) ++ drop k (replicate 16 0))

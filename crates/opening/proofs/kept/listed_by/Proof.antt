@@ -1,14 +1,7 @@
 -- `kept::listed_by` meets its contract: only a kept item gets a place.
-use mathlib.Core.Path.{_≡_, ap, _∙_}
-use mathlib.Core.List.{List}
-use Prim.Native.Nat.{ℕ}
 use borrow.Author.Needs.{needs}
 use Rattle.opening.proofs.kept.listed_by.Statement.{statement}
 use Rattle.opening.proofs.kept.listed_by.Tie as tie
-use Rattle.opening.proofs.kept.listed_by.Reads as reads
-use Rattle.opening.proofs.kept.listed_by.Lts as lts
-use Rattle.load.proofs.entry_at.Reads as entry-at-reads
-use Rattle.opening.proofs.kept.with_item.Reads as with-item-reads
 
 enum-told : tie.Need-enum-told
 enum-told c = search needs

@@ -1,13 +1,9 @@
 -- `kept::with_item` meets its contract: the place behind the last gets the item's hash and index.
-use mathlib.Core.Path.{_≡_, sym}
 use borrow.Author.Needs.{needs}
 use borrow.Author.Tests.{eq-eqb, ne-eqb}
 use Rattle.sector.specs.Layout.{namespaceOf}
 use Rattle.opening.proofs.kept.with_item.Statement.{statement}
 use Rattle.opening.proofs.kept.with_item.Tie as tie
-use Rattle.opening.proofs.kept.with_item.Reads as reads
-use Rattle.opening.proofs.kept.with_item.Lts as lts
-use Rattle.opening.proofs.kept.hash_of.Reads as hash-of-reads
 
 array-read-if1 : tie.Need-array-read-if1
 array-read-if1 c = search needs
@@ -21,14 +17,17 @@ hash-of-requires c κs = search needs
 cast-t10 : tie.Need-cast-t10
 cast-t10 c = search needs
 
+cast-list : tie.Need-cast-list
+cast-list c = search needs
+
 mul-list : tie.Need-mul-list
 mul-list c = search needs
 
 array-set-from-list : tie.Need-array-set-from-list
 array-set-from-list c = search needs
 
-add-t14 : tie.Need-add-t14
-add-t14 c = search needs
+add-t10 : tie.Need-add-t10
+add-t10 c = search needs
 
 returns-2 : tie.Need-returns-2
 returns-2 c =
@@ -43,7 +42,8 @@ with-item-spec =
     returns
     hash-of-requires
     cast-t10
+    cast-list
     mul-list
     array-set-from-list
-    add-t14
+    add-t10
     returns-2)

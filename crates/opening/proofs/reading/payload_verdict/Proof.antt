@@ -1,8 +1,7 @@
 -- `reading::payload_verdict` meets its contract: each `return` is the first rule of the payload that refuses, or the covered entries, or none.
-use mathlib.Core.Path.{_≡_, refl, sym, ap, ap₂, _∙_}
-use mathlib.Core.Bool.{Bool, true, false, not}
-use mathlib.Core.List.{List}
-use Prim.Native.Nat.{ℕ, suc, _+_, _-_, _*_, _<_, _≤_}
+use mathlib.Core.Path.{_≡_, sym, ap, _∙_}
+use mathlib.Core.Bool.{true, false, not}
+use Prim.Native.Nat.{suc, _+_, _-_, _*_, _≤_}
 use native.Mathlib.Numerals.{add-one}
 use native.Mathlib.Omega.{arith}
 use borrow.Author.Needs.{needs}
@@ -10,7 +9,7 @@ use borrow.Author.Tests.{lt-ltb, le-ltb, eq-eqb, ne-eqb, not-true, not-false}
 use lib.ListN.{take, drop}
 use Rattle.crc.specs.Crc.{crc32}
 use Rattle.sector.specs.Item.{crcStart}
-use Rattle.sector.specs.Layout.{entrySize, entriesOf, entryAddress, sizeOf, storedPayloadCrc}
+use Rattle.sector.specs.Layout.{entrySize, entriesOf, sizeOf}
 use Rattle.opening.specs.Reading.{covered, joined, sizeTooBig, payloadCrcWrong}
 use Rattle.opening.proofs.Entries.{take-joined}
 use Rattle.opening.proofs.reading.payload_verdict.Statement.{statement}
@@ -30,23 +29,26 @@ sized c =
 
 -- the payload's CRC is that of one run of bytes behind the header
 payload-crc : (c : tie.After-crc32)
-    → let args = c .before .before .before .before .before .args in
+    → let args = c .before .before .before .before .before .before .args in
     crc32 crcStart (take (sizeOf (args .t4)) (joined (take (covered (args .t4)) (drop (args .index + 1) (entriesOf (args .image .now))))))
     ≡ c .crc32 .result
 payload-crc c =
-    let sized = c .before .before in
+    let placed = c .before .before in
+    let sized = placed .before in
     let args = sized .before .before .before .args in
     let image = args .image .now in
     let size = sized .before .size-of .ensures .0 in
-    let n = sized .before .size-of .result in
-    let start : ℕ = 64 + 32 * (args .index + 1) in
-    let long : start + n - start ≡ sizeOf (args .t4) = omega arith in
+    let start = placed .entry-address .result in
+    let long : start + sized .before .size-of .result - start ≡ sizeOf (args .t4) = omega arith in
     let covers : suc (args .index) + covered (args .t4) ≤ 126 = omega arith in
     let fits : sizeOf (args .t4) ≤ entrySize * covered (args .t4) = omega arith in
-    sym (c .crc32 .ensures ∙ rw (long, add-one (args .index)) (sym (ap (crc32 crcStart) (take-joined image (args .index) (covered (args .t4)) (sizeOf (args .t4)) covers fits))))
+    sym
+    (c .crc32 .ensures
+    ∙ rw (long, placed .entry-address .ensures, add-one (args .index))
+    (sym (ap (crc32 crcStart) (take-joined image (args .index) (covered (args .t4)) (sizeOf (args .t4)) covers fits))))
 
 payload-wrong : (c : tie.Then2)
-    → let args = c .before .before .before .before .before .before .before .before .args in
+    → let args = c .before .before .before .before .before .before .before .before .before .args in
     payloadCrcWrong (args .t4) (take (covered (args .t4)) (drop (args .index + 1) (entriesOf (args .image .now)))) ≡ true
 payload-wrong c =
     let crc = payload-crc (c .before .before .before) in
@@ -54,7 +56,7 @@ payload-wrong c =
     ap not (ne-eqb _ _ (λ e. c .if2 .taken (sym crc ∙ e ∙ sym stored)))
 
 payload-right : (c : tie.Else2)
-    → let args = c .before .before .before .before .before .before .before .before .args in
+    → let args = c .before .before .before .before .before .before .before .before .before .args in
     payloadCrcWrong (args .t4) (take (covered (args .t4)) (drop (args .index + 1) (entriesOf (args .image .now)))) ≡ false
 payload-right c =
     let crc = payload-crc (c .before .before .before) in
@@ -79,14 +81,11 @@ mul-if1 c = search needs
 returns : tie.Need-returns
 returns c = rw (too-big c)
 
-add-start : tie.Need-add-start
-add-start c = search needs
+add-entry-address : tie.Need-add-entry-address
+add-entry-address c = search needs
 
-mul-start : tie.Need-mul-start
-mul-start c = search needs
-
-add-start-2 : tie.Need-add-start-2
-add-start-2 c = search needs
+entry-address-requires : tie.Need-entry-address-requires
+entry-address-requires c κs = search needs
 
 add-crc32 : tie.Need-add-crc32
 add-crc32 c = search needs
@@ -110,7 +109,9 @@ number-at-requires : tie.Need-number-at-requires
 number-at-requires c κs = search needs
 
 returns-2 : tie.Need-returns-2
-returns-2 c = rw (sized (c .before .before .before .before .before), payload-wrong c)
+returns-2 c =
+    let paid = c .before .before .before in
+    rw (sized (paid .before .before .before), payload-wrong c)
 
 add-all-usable : tie.Need-add-all-usable
 add-all-usable c = search needs
@@ -121,12 +122,22 @@ all-usable-requires c κs = search needs
 returns-3 : tie.Need-returns-3
 returns-3 c =
     let sound = c .before .before in
-    rw (sized (sound .before .before .before .before .before), payload-right sound, sym (c .before .all-usable .ensures) ∙ not-true (c .before .all-usable .result) (c .if3 .taken))
+    let paid = sound .before .before .before in
+    rw (
+      sized (paid .before .before .before),
+      payload-right sound,
+      sym (c .before .all-usable .ensures) ∙ not-true (c .before .all-usable .result) (c .if3 .taken),
+    )
 
 returns-4 : tie.Need-returns-4
 returns-4 c =
     let sound = c .before .before in
-    rw (sized (sound .before .before .before .before .before), payload-right sound, sym (c .before .all-usable .ensures) ∙ not-false (c .before .all-usable .result) (c .if3 .left))
+    let paid = sound .before .before .before in
+    rw (
+      sized (paid .before .before .before),
+      payload-right sound,
+      sym (c .before .all-usable .ensures) ∙ not-false (c .before .all-usable .result) (c .if3 .left),
+    )
 
 pub payload-verdict-spec : {M : Type 1} → statement M
 payload-verdict-spec =
@@ -138,9 +149,8 @@ payload-verdict-spec =
     size-of-requires
     mul-if1
     returns
-    add-start
-    mul-start
-    add-start-2
+    add-entry-address
+    entry-address-requires
     add-crc32
     sub-crc32
     part-crc32-start

@@ -1,9 +1,9 @@
 -- `reading::written_verdict` meets its contract: each `return` is the first rule of the header that refuses, or what its payload decides.
-use mathlib.Core.Path.{_≡_, refl, sym, ap, _∙_}
-use mathlib.Core.Bool.{Bool, true, false, _&&_, _||_, not, cond}
+use mathlib.Core.Path.{_≡_, sym, ap, _∙_}
+use mathlib.Core.Bool.{true, false, cond}
 use mathlib.Core.List.{List}
 use mathlib.Core.Option.{none, some}
-use Prim.Native.Nat.{ℕ, suc, _+_, _-_, _<_, _≤_}
+use Prim.Native.Nat.{ℕ, _+_, _-_}
 use native.Mathlib.Omega.{arith}
 use borrow.Author.Needs.{needs}
 use borrow.Author.Tests.{lt-ltb, le-ltb, eq-eqb, ne-eqb, not-true, not-false}
@@ -13,7 +13,7 @@ use Rattle.sector.specs.declared.Kind.{Kind}
 use Rattle.sector.specs.Item.{crcRight, loads}
 use Rattle.sector.specs.Layout.{entriesOf, spanOf}
 use Rattle.sector.specs.Types.{kindOf}
-use Rattle.opening.specs.Reading.{WrongSpan, isPayload, covered, spanOffPage, wrongSpan, headerRefusal, payloadRefusal}
+use Rattle.opening.specs.Reading.{WrongSpan, isPayload, covered, wrongSpan, headerRefusal, payloadRefusal}
 use Rattle.opening.proofs.Entries.{length-entries}
 use Rattle.opening.proofs.reading.written_verdict.Statement.{statement}
 use Rattle.opening.proofs.reading.written_verdict.Tie as tie

@@ -1,13 +1,9 @@
 -- `walk::marked_by` meets its contract: a range is marked for each verdict but NotAnItem, and it lies within the page.
-use mathlib.Core.Path.{_≡_, ap, _∙_}
 use Prim.Native.Nat.{_+_, _<_}
 use native.Mathlib.Omega.{arith}
 use borrow.Author.Needs.{needs}
 use Rattle.opening.proofs.walk.marked_by.Statement.{statement}
 use Rattle.opening.proofs.walk.marked_by.Tie as tie
-use Rattle.opening.proofs.walk.marked_by.Reads as reads
-use Rattle.opening.proofs.walk.marked_by.Lts as lts
-use Rattle.sector.proofs.map.mark_range.Reads as mark-range-reads
 
 refused-fits : (c : tie.After-verdict) → c .before .before .args .index + c .verdict .given .0 .1 .0 < 126
 refused-fits c = rw (c .verdict .given .1) at (c .before .before .pre)

@@ -1,26 +1,14 @@
 -- `walk::walk` meets its contract: up to the index reached the map, the refused headers and the list are the walk's, and from there on nothing is done yet.
-use mathlib.Core.Path.{_≡_, refl, sym, ap, _∙_}
-use mathlib.Core.List.{List}
-use Prim.Native.Nat.{ℕ, _+_, _-_, _<_, _≤_}
+use mathlib.Core.Path.{_≡_, sym}
+use Prim.Native.Nat.{_+_, _-_, _<_, _≤_}
 use native.Mathlib.Omega.{arith}
 use borrow.Author.Needs.{needs}
 use lib.ListN.{length}
-use Rattle.sector.specs.Layout.{entryAt}
-use Rattle.opening.specs.Reading.{Verdict, stepsOver}
-use Rattle.opening.specs.Opening.{isRefusedItem}
-use Rattle.opening.specs.Steps.{markedBy, listedBy}
+use Rattle.opening.specs.Reading.{stepsOver}
 use Rattle.opening.proofs.Arrays.{bytes-of-array}
 use Rattle.opening.proofs.Progress.{verdictOf, steps-inside, MarkedTo, marked-start, marked-step, marked-end, HeadsTo, heads-start, heads-step, heads-end, ListedTo, listed-start, listed-step, listed-end}
 use Rattle.opening.proofs.walk.walk.Statement.{statement}
 use Rattle.opening.proofs.walk.walk.Tie as tie
-use Rattle.opening.proofs.walk.walk.Reads as reads
-use Rattle.opening.proofs.walk.walk.Lts as lts
-use Rattle.opening.proofs.kept.empty.Reads as empty-reads
-use Rattle.opening.proofs.kept.listed_by.Reads as listed-by-reads
-use Rattle.opening.proofs.reading.verdict_at.Reads as verdict-at-reads
-use Rattle.opening.proofs.walk.is_refused_item.Reads as is-refused-item-reads
-use Rattle.opening.proofs.walk.marked_by.Reads as marked-by-reads
-use Rattle.opening.proofs.walk.steps_over.Reads as steps-over-reads
 
 abbrev Inv-loop : tie.InvT-loop
 Inv-loop image map marked₀ heads₀ listing₀ index₀ marked heads listing index =

@@ -1,0 +1,10 @@
+-- Any two results that the public call's contract allows are equal, and so are the images that they leave (01, 'What the contracts have to say').
+-- Assumes nothing.
+use denote.Ref.{now}
+use Rattle.page.proofs.Unique.{OneOutcome}
+use Rattle.sector.proofs.Unique.{unique}
+use Rattle.opening.proofs.open_page.Kinds as open-page-kinds
+use Rattle.opening.proofs.open_page.Reads as open-page
+
+pub open-page-unique : OneOutcome 1 open-page-kinds.ps open-page-kinds.r (λ κs ex. now (ex .0)) open-page.Learnt
+open-page-unique κs args x y ex ey p q = (unique (p .0) (q .0), unique (p .1) (q .1))

@@ -1,0 +1,159 @@
+-- `header::header_verdict` meets its contract: each `return` is the first rule of the header that decides.
+use mathlib.Core.Path.{_≡_, refl, sym, ap, _∙_}
+use mathlib.Core.Bool.{true, false, false≢true}
+use borrow.Author.Needs.{needs}
+use borrow.Author.Tests.{eq-eqb, ne-eqb, not-true, not-false}
+use Rattle.page.specs.Record.{isUninitialized}
+use Rattle.sector.specs.declared.PageState.{PageState}
+use Rattle.sector.specs.declared.PageState.the-variants.{Uninitialized, Active, Full, Freeing, Corrupt, Invalid}
+use Rattle.sector.specs.Header.{stateOfWord, headerCrc}
+use Rattle.sector.specs.Layout.{stateWord, versionOf, storedHeaderCrc}
+use Rattle.opening.specs.Opening.{isOpenState, headerVerdictOf}
+use Rattle.opening.proofs.header.header_verdict.Statement.{statement}
+use Rattle.opening.proofs.header.header_verdict.Tie as tie
+
+state : (c : tie.After-state-of-word) → stateOfWord (stateWord (c .before .before .before .args .image .now)) ≡ c .state-of-word .result
+state c = sym (c .state-of-word .ensures ∙ ap stateOfWord (c .before .number-at .ensures))
+
+uninitialized : (c : tie.After-is-uninitialized)
+    → isUninitialized (stateOfWord (stateWord (c .before .before .before .before .args .image .now))) ≡ c .is-uninitialized .result
+uninitialized c = ap isUninitialized (state (c .before)) ∙ sym (c .is-uninitialized .ensures)
+
+opens : (c : tie.After-is-open)
+    → isOpenState (stateOfWord (stateWord (c .before .before .before .before .before .before .args .image .now))) ≡ c .is-open .result
+opens c = ap isOpenState (state (c .before .before .before)) ∙ sym (c .is-open .ensures)
+
+uninitialized-shut : (s : PageState) → isUninitialized s ≡ true → isOpenState s ≡ false
+uninitialized-shut Uninitialized e = refl
+uninitialized-shut Active e = absurd (false≢true e)
+uninitialized-shut Full e = absurd (false≢true e)
+uninitialized-shut Freeing e = absurd (false≢true e)
+uninitialized-shut Corrupt e = refl
+uninitialized-shut Invalid e = refl
+
+-- the header's own CRC, as the code makes it
+header-crc : (c : tie.After-crc32)
+    → headerCrc (c .before .before .before .before .before .before .before .before .before .before .before .args .image .now) ≡ c .crc32 .result
+unfolding headerCrc
+header-crc c = sym (c .crc32 .ensures)
+
+number-at-requires : tie.Need-number-at-requires
+number-at-requires c κs = search needs
+
+state-of-word-requires : tie.Need-state-of-word-requires
+state-of-word-requires c κs = search needs
+
+is-uninitialized-requires : tie.Need-is-uninitialized-requires
+is-uninitialized-requires c κs = search needs
+
+all-ones-requires : tie.Need-all-ones-requires
+all-ones-requires c κs = search needs
+
+returns : tie.Need-returns
+unfolding headerVerdictOf
+returns c =
+    let blank = c .before .before in
+    rw (uninitialized (blank .before) ∙ blank .if1 .taken, sym (c .before .all-ones .ensures) ∙ c .if2 .taken)
+
+returns-2 : tie.Need-returns-2
+unfolding headerVerdictOf
+returns-2 c =
+    let blank = c .before .before in
+    let image = blank .before .before .before .before .before .args .image .now in
+    let erased = uninitialized (blank .before) ∙ blank .if1 .taken in
+    rw (
+      erased,
+      sym (c .before .all-ones .ensures) ∙ c .if2 .left,
+      uninitialized-shut (stateOfWord (stateWord image)) erased,
+    )
+
+is-open-requires : tie.Need-is-open-requires
+is-open-requires c κs = search needs
+
+returns-3 : tie.Need-returns-3
+unfolding headerVerdictOf
+returns-3 c =
+    let begun = c .before .before in
+    rw (uninitialized (begun .before) ∙ begun .if1 .left, opens (c .before) ∙ not-true (c .before .is-open .result) (c .if3 .taken))
+
+shared-slice-read-if4 : tie.Need-shared-slice-read-if4
+shared-slice-read-if4 c = search needs
+
+returns-4 : tie.Need-returns-4
+unfolding headerVerdictOf
+returns-4 c =
+    let opened = c .before .before in
+    let begun = opened .before .before in
+    let image = begun .before .before .before .before .before .args .image .now in
+    rw (
+      uninitialized (begun .before) ∙ begun .if1 .left,
+      opens (opened .before) ∙ not-false (opened .before .is-open .result) (opened .if3 .left),
+      ne-eqb (versionOf image) 0xFE (c .if4 .taken),
+    )
+
+sub-crc32 : tie.Need-sub-crc32
+sub-crc32 c = search needs
+
+part-crc32-start : tie.Need-part-crc32-start
+part-crc32-start c = search needs
+
+part-crc32-end : tie.Need-part-crc32-end
+part-crc32-end c = search needs
+
+crc32-requires : tie.Need-crc32-requires
+crc32-requires c κs = search needs
+
+number-at-requires-2 : tie.Need-number-at-requires-2
+number-at-requires-2 c κs = search needs
+
+returns-5 : tie.Need-returns-5
+unfolding headerVerdictOf
+returns-5 c =
+    let summed = c .before .before in
+    let versed = summed .before .before in
+    let opened = versed .before .before in
+    let begun = opened .before .before in
+    let image = begun .before .before .before .before .before .args .image .now in
+    rw (
+      uninitialized (begun .before) ∙ begun .if1 .left,
+      opens (opened .before) ∙ not-false (opened .before .is-open .result) (opened .if3 .left),
+      eq-eqb (versionOf image) 0xFE (versed .if4 .left),
+      ne-eqb (headerCrc image) (storedHeaderCrc image) (λ e. c .if5 .taken (sym (header-crc summed) ∙ e ∙ sym (c .before .number-at2 .ensures))),
+    )
+
+returns-6 : tie.Need-returns-6
+unfolding headerVerdictOf
+returns-6 c =
+    let summed = c .before .before in
+    let versed = summed .before .before in
+    let opened = versed .before .before in
+    let begun = opened .before .before in
+    let image = begun .before .before .before .before .before .args .image .now in
+    rw (
+      uninitialized (begun .before) ∙ begun .if1 .left,
+      opens (opened .before) ∙ not-false (opened .before .is-open .result) (opened .if3 .left),
+      eq-eqb (versionOf image) 0xFE (versed .if4 .left),
+      eq-eqb (headerCrc image) (storedHeaderCrc image) (header-crc summed ∙ c .if5 .left ∙ c .before .number-at2 .ensures),
+    )
+
+pub header-verdict-spec : {M : Type 1} → statement M
+header-verdict-spec =
+    tie.close
+    (tie.spec
+    number-at-requires
+    state-of-word-requires
+    is-uninitialized-requires
+    all-ones-requires
+    returns
+    returns-2
+    is-open-requires
+    returns-3
+    shared-slice-read-if4
+    returns-4
+    sub-crc32
+    part-crc32-start
+    part-crc32-end
+    crc32-requires
+    number-at-requires-2
+    returns-5
+    returns-6)

@@ -1,0 +1,68 @@
+-- `plan::record_of` meets its contract: each field is read where its definition says, and the counts fit a byte.
+use mathlib.Core.Path.{_≡_, ap, _∙_}
+use Prim.Native.Nat.{_+_}
+use native.Mathlib.Omega.{arith}
+use borrow.Author.Needs.{needs}
+use Rattle.sector.specs.Header.{stateOfWord}
+use Rattle.sector.specs.Map.{statistics}
+use Rattle.sector.proofs.Laws.{statistics-sum}
+use Rattle.opening.specs.Steps.{recordOf}
+use Rattle.opening.proofs.plan.record_of.Statement.{statement}
+use Rattle.opening.proofs.plan.record_of.Tie as tie
+
+-- the four counts are of 126 entries
+counted : (c : tie.After-get-entry-statistics)
+    → let counts = c .get-entry-statistics .result in counts .empty + counts .written + counts .erased + counts .illegal ≡ 126
+counted c =
+    let map = c .before .before .before .before .before .before .args .map in
+    rw (← c .get-entry-statistics .ensures) at (statistics-sum map (omega arith))
+
+number-at-requires : tie.Need-number-at-requires
+number-at-requires c κs = search needs
+
+state-of-word-requires : tie.Need-state-of-word-requires
+state-of-word-requires c κs = search needs
+
+number-at-requires-2 : tie.Need-number-at-requires-2
+number-at-requires-2 c κs = search needs
+
+number-at-requires-3 : tie.Need-number-at-requires-3
+number-at-requires-3 c κs = search needs
+
+get-entry-statistics-requires : tie.Need-get-entry-statistics-requires
+get-entry-statistics-requires c κs = search needs
+
+cast-used : tie.Need-cast-used
+cast-used c = omega (arith, counted (c .before))
+
+cast-erased : tie.Need-cast-erased
+cast-erased c = omega (arith, counted (c .before .before))
+
+shared-slice-read-t13 : tie.Need-shared-slice-read-t13
+shared-slice-read-t13 c = search needs
+
+returns : tie.Need-returns
+unfolding recordOf statistics
+returns c =
+    let counted = c .before .before .before .before in
+    let stated = counted .before .before .before in
+    rw (
+      stated .state-of-word .ensures ∙ ap stateOfWord (stated .before .number-at .ensures),
+      counted .before .before .number-at2 .ensures,
+      counted .before .number-at3 .ensures,
+      counted .get-entry-statistics .ensures,
+    )
+
+pub record-of-spec : {M : Type 1} → statement M
+record-of-spec =
+    tie.close
+    (tie.spec
+    number-at-requires
+    state-of-word-requires
+    number-at-requires-2
+    number-at-requires-3
+    get-entry-statistics-requires
+    cast-used
+    cast-erased
+    shared-slice-read-t13
+    returns)

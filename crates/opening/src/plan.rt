@@ -1,0 +1,69 @@
+// What opening does to a page that opens, read off its bytes before any is programmed.
+ghost use mathlib.Core.Path.{_≡_};
+ghost use lib.ListN.{length};
+ghost use Rattle.sector.specs.Layout.{sectorSize, mapOf};
+ghost use Rattle.opening.specs.Opening.{firstMap, openedPage};
+ghost use Rattle.opening.specs.Steps.{recordOf};
+use crate::Changes;
+use crate::Listing;
+use crate::marks;
+use crate::walk;
+use page::ThinPage;
+use sector::bytes;
+use sector::header;
+use sector::map;
+
+const MAP_OFFSET: usize = 32;
+
+// The map's 32 bytes.
+fn map_of(image: &[u8]) -> [u8; 32]
+    requires { ⌜ length (now image) ≡ sectorSize ⌝ }
+    ensures { λ r. ⌜ r ≡ mapOf (now (image .entry)) ⌝ }
+{
+    let mut map = [0u8; 32];
+    for k in 0..32usize {
+        map[k] = image[MAP_OFFSET + k];
+    }
+    map
+}
+
+// The record of a header, with the map and the list that opening leaves.
+fn record_of(image: &[u8], map: [u8; 32], listing: Listing) -> ThinPage
+    requires { ⌜ length (now image) ≡ sectorSize ⌝ }
+    ensures { λ r. ⌜ r ≡ recordOf (now (image .entry)) map listing ⌝ }
+{
+    let state = header::state_of_word(bytes::number_at(image, 0));
+    let sequence = bytes::number_at(image, 4);
+    let crc = bytes::number_at(image, 28);
+    let statistics = map::get_entry_statistics(map);
+    let used = statistics.written as u8;
+    let erased = statistics.erased as u8;
+    let list = listing.list;
+    ThinPage {
+        state,
+        sequence,
+        version: image[8],
+        crc,
+        map,
+        used,
+        erased,
+        len: listing.len,
+        list,
+    }
+}
+
+// Reads the page: the walk, the entries before the free tail, the first pass, the record.
+pub(crate) fn changes(image: &[u8]) -> Changes
+    requires { ⌜ length (now image) ≡ sectorSize ⌝ }
+    ensures { λ r. ⌜ (r .map ≡ mapOf (now (image .entry))) × (r .first ≡ firstMap (now (image .entry))) × (r .page ≡ openedPage (now (image .entry))) ⌝ }
+{
+    let map = map_of(image);
+    let walked = walk::walk(image, map);
+    let marked = walked.map;
+    let opened = marks::shut_before_tail(image, marked);
+    let heads = walked.heads;
+    let first = marks::first_pass(map, opened, heads);
+    let listing = walked.listing;
+    let page = record_of(image, opened, listing);
+    Changes { map, first, page }
+}
