@@ -2,100 +2,34 @@
 --
 -- In order as in specs/Promises.antt.
 -- Assumes nothing.
-use mathlib.Core.Path.{_≡_, refl, sym, ap, ap₂, _∙_, subst}
-use mathlib.Core.Bool.{Bool, true, false, _&&_, _||_, not, cond, false≢true, and-eq-true-iff}
-use mathlib.Core.List.{List, [], _∷_, _++_, append-nil}
+use mathlib.Core.Path.{_≡_, refl, sym, ap, _∙_, subst}
+use mathlib.Core.Bool.{Bool, true, false, not, cond, false≢true, and-eq-true-iff}
+use mathlib.Core.List.{List, [], _∷_, _++_}
 use mathlib.Core.Logic.{_⊎_, inl, inr}
-use Prim.Native.Nat.{ℕ, zero, suc, _+_, _-_, _*_, _/_, _≤_, _<_}
+use Prim.Native.Nat.{ℕ, zero, suc, _+_, _≤_, _<_}
 use native.Mathlib.Omega.{arith}
 use lib.Bits.{bitAnd}
-use lib.Dec.{eqb, ltb, leb}
+use lib.Dec.{eqb, ltb}
 use lib.ListN.{length, take, getD}
 use lib.Seq.{take-all}
-use borrow.Author.Tests.{ltb-true, ltb-false, lt-ltb, le-ltb, eqb-false, not-true}
+use borrow.Author.Tests.{ltb-true, ltb-false, lt-ltb, le-ltb, not-true}
 use Rattle.flash.specs.Flash.{Unit4, run, every}
-use Rattle.flash.proofs.Laws.{OnlyClears, clears-nil, clears-cons, clears-refl, clears-run, length-run}
+use Rattle.flash.proofs.Laws.{OnlyClears, clears-nil, clears-cons, clears-refl, clears-run, length-run, Outside, outside-take}
 use Rattle.page.specs.declared.Outcome.{Outcome}
 use Rattle.page.specs.declared.ThinPage.{ThinPage}
 use Rattle.page.specs.Record.{free}
-use Rattle.page.specs.Writing.{badImage, badRecord, notActive, overFree, outcome, imageAfter, stops}
-use Rattle.page.proofs.Checks.{refusal-append, accepted-head}
+use Rattle.page.specs.Writing.{badImage, overFree, outcome, imageAfter, stops}
+use Rattle.page.proofs.Checks.{refusal-append}
 use Rattle.sector.specs.declared.Answer.{Answer}
-use Rattle.sector.specs.declared.Answer.the-variants.{Done, BadImage, ValueTooLong, PageFull, KeyNotFound, CorruptedData, Stopped}
+use Rattle.sector.specs.declared.Answer.the-variants.{BadImage, ValueTooLong, PageFull}
 use Rattle.sector.specs.Answers.{numberOf, Check, refusal, accepted}
-use Rattle.sector.specs.Item.{loads}
 use Rattle.sector.specs.Layout.{entryAt, spanOf}
-use Rattle.header.specs.Calls.{initialise, initialiseImage, markFull, markFullImage}
-use Rattle.append.specs.Append.{singlePlan, withSingle, spanFor, variablePlan, withVariable, appendSingle, appendSingleImage, appendVariable, appendVariableImage}
-use Rattle.copy.specs.Copy.{copyPlan, withCopy, copyIn, copyInImage}
-use Rattle.erase.specs.Erase.{erase, eraseImage}
-use Rattle.erase.specs.Purge.{purgePlan, purge, purgeImage, purgeNamespace, purgeNamespaceImage}
-use Rattle.promises.specs.Promises.{NewItem, single, variable, copied, Call, initialising, markingFull, putting, erasing, purging, checksOf, planOf, newOf, outcomeOf, imageOf, PlainFromTotal, StoppedLeavesFirst, isRefusal, RefusedChangesNothing, RefusedPurgesNothing, spanOfNew, earlierChecks, PageFullExactly, SetsNoBit, OnlyClearsBits, PurgeOnlyClearsBits}
-
--- ---- checks
-
--- no check answers Done or Stopped
-abbrev answersRefusal : Check → Bool
-answersRefusal check = isRefusal (check .1)
-
-refused : (checks : List Check) → every answersRefusal checks ≡ true → accepted checks ≡ false → isRefusal (refusal checks) ≡ true
-refused [] e f = absurd (false≢true (sym f))
-refused ((true, answer) ∷ checks) e f = and-eq-true-iff (isRefusal answer) (every answersRefusal checks) .0 e .0
-refused ((false, answer) ∷ checks) e f = refused checks (and-eq-true-iff (isRefusal answer) (every answersRefusal checks) .0 e .1) f
-
-pub checks-refuse : (call : Call) (image : List ℕ) (page : ThinPage) → every answersRefusal (checksOf call image page) ≡ true
-checks-refuse (initialising sequence) image page = refl
-checks-refuse markingFull image page = refl
-checks-refuse (putting (single item)) image page = refl
-checks-refuse (putting (variable item payload)) image page = refl
-checks-refuse (putting (copied source i)) image page = refl
-checks-refuse (erasing index span) image page = refl
-checks-refuse (purging namespace) image page = refl
-
--- ---- a call does the first m of its units: n of them, or all where it takes no n
-
-record Told (call : Call) (image : List ℕ) (page : ThinPage) (n : ℕ) : Type 0 where
-  count : ℕ
-  count-is : (count ≡ n) ⊎ (count ≡ length (planOf call image page))
-  outcome-is : outcomeOf call image page n ≡ outcome (checksOf call image page) (stops count (planOf call image page)) page (newOf call page)
-  image-is : imageOf call image page n ≡ imageAfter (checksOf call image page) (take count (planOf call image page)) image
-
-not-below : (plan : List Unit4) → false ≡ stops (length plan) plan
-not-below plan = sym (le-ltb (length plan) (length plan) (omega arith))
-
-all-units : (plan : List Unit4) → plan ≡ take (length plan) plan
-all-units plan = sym (take-all (length plan) plan (omega arith))
-
-told : (call : Call) (image : List ℕ) (page : ThinPage) (n : ℕ) → Told call image page n
-unfolding initialise initialiseImage markFull markFullImage appendSingle appendSingleImage appendVariable appendVariableImage copyIn copyInImage erase eraseImage purgeNamespace purgeNamespaceImage
-told (initialising sequence) image page n = record { count = n; count-is = inl refl; outcome-is = refl; image-is = refl }
-told markingFull image page n =
-    let plan = planOf markingFull image page in
-    record {
-      count = length plan;
-      count-is = inr refl;
-      outcome-is = ap (λ (s : Bool). outcome (checksOf markingFull image page) s page (newOf markingFull page)) (not-below plan);
-      image-is = ap (λ (us : List Unit4). imageAfter (checksOf markingFull image page) us image) (all-units plan);
-    }
-told (putting (single item)) image page n = record { count = n; count-is = inl refl; outcome-is = refl; image-is = refl }
-told (putting (variable item payload)) image page n = record { count = n; count-is = inl refl; outcome-is = refl; image-is = refl }
-told (putting (copied source i)) image page n = record { count = n; count-is = inl refl; outcome-is = refl; image-is = refl }
-told (erasing index span) image page n =
-    let plan = planOf (erasing index span) image page in
-    record {
-      count = length plan;
-      count-is = inr refl;
-      outcome-is = ap (λ (s : Bool). outcome (checksOf (erasing index span) image page) s page (newOf (erasing index span) page)) (not-below plan);
-      image-is = ap (λ (us : List Unit4). imageAfter (checksOf (erasing index span) image page) us image) (all-units plan);
-    }
-told (purging namespace) image page n =
-    let plan = planOf (purging namespace) image page in
-    record {
-      count = length plan;
-      count-is = inr refl;
-      outcome-is = ap (λ (s : Bool). outcome (checksOf (purging namespace) image page) s page page) (not-below plan);
-      image-is = ap (λ (us : List Unit4). imageAfter (checksOf (purging namespace) image page) us image) (all-units plan);
-    }
+use Rattle.append.specs.Append.{singlePlan, withSingle, spanFor, variablePlan, withVariable, appendSingle, appendVariable}
+use Rattle.copy.specs.Copy.{copyPlan, withCopy, copyIn}
+use Rattle.erase.specs.Purge.{purgePlan, purge, purgeImage}
+use Rattle.promises.specs.Promises.{single, variable, copied, checksOf, planOf, newOf, PlainFromTotal, StoppedLeavesFirst, isRefusal, RefusedChangesNothing, RefusedPurgesNothing, earlierChecks, PageFullExactly, SetsNoBit, OnlyClearsBits, PurgeOnlyClearsBits, writesOf, AltersNothingElse}
+use Rattle.promises.proofs.Order.{writes-in-order, outside-joined, getD-after}
+use Rattle.promises.proofs.Answers.{checks-refuse, accepted-append, copied-span, stopped-only, refusal-only, told}
 
 -- ---- the total
 
@@ -114,31 +48,6 @@ plain-from-total call image page n h =
     by-count count total (inr e) h = omega arith
 
 -- ---- 11, and 1 to 10
-
-module _ (checks : List Check) (refuse : every answersRefusal checks ≡ true) (stopped : Bool) (page new : ThinPage) where
-  -- 11 is answered where no check refuses and n is below the total
-  stopped-only : outcome checks stopped page new .answer ≡ Stopped
-      → (accepted checks ≡ true) × (stopped ≡ true) × (outcome checks stopped page new .page ≡ page)
-  stopped-only h = by-tests (accepted checks) stopped refl refl h
-    where
-      by-tests : (ok s : Bool) → accepted checks ≡ ok → stopped ≡ s → outcome checks stopped page new .answer ≡ Stopped
-          → (accepted checks ≡ true) × (stopped ≡ true) × (outcome checks stopped page new .page ≡ page)
-      by-tests true true a e h = (a, e, rw (a, e))
-      by-tests true false a e h = let wrong : Done ≡ Stopped = (rw (a, e) at h) in let z : _≡_ {A = ℕ} 0 1 = cc in absurd (omega arith)
-      by-tests false s a e h =
-          let wrong : refusal checks ≡ Stopped = (rw a at h) in
-          absurd (false≢true (sym (ap isRefusal wrong) ∙ refused checks refuse a))
-
--- 1 to 10 are answered where a check refuses
-refusal-only : (checks : List Check) (stopped : Bool) (page new : ThinPage) → isRefusal (outcome checks stopped page new .answer) ≡ true
-    → (accepted checks ≡ false) × (outcome checks stopped page new .page ≡ page)
-refusal-only checks stopped page new h = by-tests (accepted checks) stopped refl refl h
-  where
-    by-tests : (ok s : Bool) → accepted checks ≡ ok → stopped ≡ s → isRefusal (outcome checks stopped page new .answer) ≡ true
-        → (accepted checks ≡ false) × (outcome checks stopped page new .page ≡ page)
-    by-tests true true a e h = absurd (false≢true (rw (a, e) at h))
-    by-tests true false a e h = absurd (false≢true (rw (a, e) at h))
-    by-tests false s a e h = (a, rw a)
 
 pub stopped-leaves-first : StoppedLeavesFirst
 stopped-leaves-first call image page n h =
@@ -192,11 +101,6 @@ refusal-other ((true, answer) ∷ checks) h =
     not-true (isPageFull answer) (and-eq-true-iff (not (isPageFull answer)) (every answersOther checks) .0 h .0)
 refusal-other ((false, answer) ∷ checks) h = refusal-other checks (and-eq-true-iff (not (isPageFull answer)) (every answersOther checks) .0 h .1)
 
-accepted-append : (xs ys : List Check) → accepted (xs ++ ys) ≡ cond (accepted xs) (accepted ys) false
-accepted-append [] ys = refl
-accepted-append ((true, answer) ∷ xs) ys = refl
-accepted-append ((false, answer) ∷ xs) ys = accepted-append xs ys
-
 module _ (earlier behind : List Check) (others : every answersOther earlier ≡ true) (stopped : Bool) (page new : ThinPage) where
   -- PageFull comes of the checks behind
   full-of-behind : outcome (earlier ++ behind) stopped page new .answer ≡ PageFull → (accepted earlier ≡ true) × (refusal behind ≡ PageFull)
@@ -222,32 +126,6 @@ room-full false h = absurd (false≢true (ap isPageFull h))
 length-full : (long over : Bool) → refusal ((long, ValueTooLong) ∷ (over, PageFull) ∷ []) ≡ PageFull → (long ≡ false) × (over ≡ true)
 length-full true over h = absurd (false≢true (ap isPageFull h))
 length-full false over h = (refl, room-full over h)
-
-or-false : (a b : Bool) → (a || b) ≡ false → (a ≡ false) × (b ≡ false)
-or-false true b h = absurd (false≢true (sym h))
-or-false false b h = (refl, h)
-
-accepted-both : (xs ys : List Check) → accepted (xs ++ ys) ≡ true → (accepted xs ≡ true) × (accepted ys ≡ true)
-accepted-both xs ys h = by-test (accepted xs) refl (sym (accepted-append xs ys) ∙ h)
-  where
-    by-test : (ok : Bool) → accepted xs ≡ ok → cond ok (accepted ys) false ≡ true → (accepted xs ≡ true) × (accepted ys ≡ true)
-    by-test true e h = (e, h)
-    by-test false e h = absurd (false≢true h)
-
--- a copy that is accepted so far: its span is at least 1, and leaves neither page
-copied-span : (source : List ℕ) (i : ℕ) (image : List ℕ) (page : ThinPage) → accepted (earlierChecks (copied source i) image page) ≡ true
-    → (1 ≤ spanOfNew (copied source i)) × (i + spanOfNew (copied source i) ≤ 126)
-copied-span source i image page h =
-    let span = spanOf (entryAt source i) in
-    let front : List Check =
-    badImage image ∷ badImage source ∷ badRecord page ∷ notActive page ∷ (not (ltb i 126), CorruptedData) ∷ (not (loads (entryAt source i)), KeyNotFound) ∷ [] in
-    let wrong = eqb span 0 || ltb 126 (i + span) in
-    let tests = or-false (eqb span 0) (ltb 126 (i + span)) (accepted-head wrong CorruptedData [] (accepted-both front ((wrong, CorruptedData) ∷ []) h .1)) in
-    (positive span (eqb-false span 0 (tests .0)), ltb-false 126 (i + span) (tests .1))
-  where
-    positive : (span : ℕ) → (span ≡ 0 → ⊥) → 1 ≤ span
-    positive zero h = absurd (h refl)
-    positive (suc span) h = omega arith
 
 pub page-full-exactly : PageFullExactly
 unfolding appendSingle appendVariable copyIn
@@ -307,3 +185,14 @@ only-clears-bits call image page n =
 pub purge-only-clears-bits : PurgeOnlyClearsBits
 unfolding purgeImage
 purge-only-clears-bits image index span = after-clears (accepted (badImage image ∷ [])) (purgePlan index span) image
+
+-- ---- the bytes that are reached
+
+pub alters-nothing-else : AltersNothingElse
+alters-nothing-else call image page n f i away =
+    let t = told call image page n in
+    let plan = planOf call image page in
+    let writes = writes-in-order call image page f in
+    let unreached : Outside i (i + 1) plan = subst (Outside i (i + 1)) (writes .0) (outside-joined i (writesOf call image page) (writes .1) away) in
+    ap (λ (after : List ℕ). getD after i 0) (t .image-is)
+    ∙ getD-after i (accepted (checksOf call image page)) (take (t .count) plan) image (outside-take (t .count) unreached)
