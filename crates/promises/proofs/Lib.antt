@@ -2,3 +2,4 @@ pub mod Answers
 pub mod Order
 pub mod Promises
 pub mod FitRecords
+mod Examples

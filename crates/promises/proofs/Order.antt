@@ -30,7 +30,7 @@ use Rattle.append.specs.Append.{singleBytes, singlePlan, spanFor, variableHeade
 use Rattle.copy.specs.Copy.{copiedBytes, copyPlan}
 use Rattle.erase.specs.Erase.{erasePlan}
 use Rattle.erase.specs.Purge.{heldSpan, purgePlan, purgeImage, toZero, zeroUnits, purgeNamespacePlan}
-use Rattle.promises.specs.Promises.{NewItem, single, variable, copied, initialising, markingFull, putting, erasing, purging, formed, spanOfNew, Write, rises, inOrder, entryUnits, itemWrites, zeroWrites, joined, WritesInOrder, outside, PurgesItsEntries, PurgesNothingPast}
+use Rattle.promises.specs.Promises.{NewItem, single, variable, copied, initialising, markingFull, putting, erasing, purging, formed, spanOfNew, Write, rises, inOrder, marking, entryUnits, itemWrites, zeroWrites, joined, WritesInOrder, outside, PurgesItsEntries, PurgesNothingPast}
 
 -- ---- units that rise
 
@@ -104,14 +104,14 @@ rises-header : (sequence : ℕ) → rises 0 32 (units 0 (headerBytes sequence)) 
 unfolding headerBytes
 rises-header sequence = rises-units 0 (headerBytes sequence) 32 (omega arith)
 
-rises-marks : (i n : ℕ) (map : List ℕ) → rises (mapOffset + 4 * (i / 16)) (mapOffset + 4 * ((i + n - 1) / 16 + 1)) (mapUnits i n map) ≡ true
+rises-marks : (i n : ℕ) (map : List ℕ) → inOrder (marking i n (mapUnits i n map)) ≡ true
 unfolding mapUnits
 rises-marks i n map =
     let first : ℕ = i / 16 in
     let count : ℕ = (i + n - 1) / 16 + 1 - first in
     let part = field (4 * first) (4 * count) map in
     let long : length part ≤ 4 * count = rw length-take (omega arith) in
-    rises-units (mapOffset + 4 * first) part (mapOffset + 4 * ((i + n - 1) / 16 + 1)) (omega arith)
+    rises-units (mapOffset + 4 * first) part (marking i n [] .to) (omega arith)
 
 length-itemBytes : (namespace type span chunk : ℕ) (key bytes : List ℕ) → length (itemBytes namespace type span chunk key bytes) ≡ 8 + length key + length bytes
 unfolding itemBytes

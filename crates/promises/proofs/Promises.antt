@@ -18,16 +18,17 @@ use Rattle.flash.proofs.Laws.{OnlyClears, clears-nil, clears-cons, clears-refl,
 use Rattle.page.specs.declared.Outcome.{Outcome}
 use Rattle.page.specs.declared.ThinPage.{ThinPage}
 use Rattle.page.specs.Record.{free}
-use Rattle.page.specs.Writing.{badImage, overFree, outcome, imageAfter, stops}
+use Rattle.page.specs.Writing.{badImage, overFree, answered, outcome, imageAfter, stops}
 use Rattle.page.proofs.Checks.{refusal-append}
 use Rattle.sector.specs.declared.Answer.{Answer}
-use Rattle.sector.specs.declared.Answer.the-variants.{BadImage, ValueTooLong, PageFull}
+use Rattle.sector.specs.declared.Answer.the-variants.{BadImage, ValueTooLong, PageFull, Stopped}
 use Rattle.sector.specs.Answers.{numberOf, Check, refusal, accepted}
 use Rattle.sector.specs.Layout.{entryAt, spanOf}
-use Rattle.append.specs.Append.{singlePlan, withSingle, spanFor, variablePlan, withVariable, appendSingle, appendVariable}
-use Rattle.copy.specs.Copy.{copyPlan, withCopy, copyIn}
+use Rattle.header.specs.Calls.{initialiseChecks, initialisePlan, initialised, initialise}
+use Rattle.append.specs.Append.{singleChecks, variableChecks, singlePlan, withSingle, spanFor, variablePlan, withVariable, appendSingle, appendVariable}
+use Rattle.copy.specs.Copy.{copyChecks, copyPlan, withCopy, copyIn}
 use Rattle.erase.specs.Purge.{purgePlan, purge, purgeImage}
-use Rattle.promises.specs.Promises.{single, variable, copied, checksOf, planOf, newOf, PlainFromTotal, StoppedLeavesFirst, isRefusal, RefusedChangesNothing, RefusedPurgesNothing, earlierChecks, PageFullExactly, SetsNoBit, OnlyClearsBits, PurgeOnlyClearsBits, writesOf, AltersNothingElse}
+use Rattle.promises.specs.Promises.{single, variable, copied, initialising, markingFull, putting, erasing, purging, checksOf, planOf, newOf, PlainFromTotal, StoppedLeavesFirst, StopsBelowTotal, isRefusal, RefusedChangesNothing, RefusedPurgesNothing, earlierChecks, PageFullExactly, SetsNoBit, OnlyClearsBits, PurgeOnlyClearsBits, writesOf, AltersNothingElse}
 use Rattle.promises.proofs.Order.{writes-in-order, outside-joined, getD-after}
 use Rattle.promises.proofs.Answers.{checks-refuse, accepted-append, copied-span, stopped-only, refusal-only, told}
 
@@ -66,6 +67,24 @@ stopped-leaves-first call image page n h =
     by-count : (count total : ℕ) → (count ≡ n) ⊎ (count ≡ total) → count < total → count ≡ n
     by-count count total (inl e) b = e
     by-count count total (inr e) b = absurd (omega arith)
+
+below-total : (checks : List Check) (plan : List Unit4) (page new : ThinPage) (n : ℕ) → accepted checks ≡ true → n < length plan
+    → outcome checks (stops n plan) page new ≡ answered Stopped page
+below-total checks plan page new n a h = rw (a, lt-ltb n (length plan) h)
+
+pub stops-below-total : StopsBelowTotal
+unfolding initialise appendSingle appendVariable copyIn
+stops-below-total (initialising sequence) image page n t a h =
+    below-total (initialiseChecks image page) (initialisePlan sequence) page (initialised page sequence) n a h
+stops-below-total markingFull image page n t a h = absurd (false≢true t)
+stops-below-total (putting (single item)) image page n t a h =
+    below-total (singleChecks image page item) (singlePlan page item) page (withSingle page item) n a h
+stops-below-total (putting (variable item payload)) image page n t a h =
+    below-total (variableChecks image page item payload) (variablePlan page item payload) page (withVariable page item payload) n a h
+stops-below-total (putting (copied source i)) image page n t a h =
+    below-total (copyChecks image page source i) (copyPlan page source i) page (withCopy page source i) n a h
+stops-below-total (erasing index span) image page n t a h = absurd (false≢true t)
+stops-below-total (purging namespace) image page n t a h = absurd (false≢true t)
 
 pub refused-changes-nothing : RefusedChangesNothing
 refused-changes-nothing call image page n h =

@@ -16,7 +16,7 @@ use Rattle.flash.specs.Flash.{Unit4, unit, units, run, every}
 use Rattle.page.specs.declared.Outcome.{Outcome}
 use Rattle.page.specs.declared.ThinPage.{ThinPage}
 use Rattle.page.specs.Record.{nextFree, free, fitToUse, withErased}
-use Rattle.page.specs.Writing.{badImage, badRecord, notActive, outcome, imageAfter, fullUnits}
+use Rattle.page.specs.Writing.{badImage, badRecord, notActive, answered, outcome, imageAfter, fullUnits}
 use Rattle.sector.specs.declared.Answer.{Answer}
 use Rattle.sector.specs.declared.Answer.the-variants.{Done, CorruptedData, KeyNotFound, PageFull, Stopped}
 use Rattle.sector.specs.declared.EntryMapState.the-variants.{Written}
@@ -40,7 +40,7 @@ pub data NewItem : Type 0 where
   variable : Variable → List ℕ → NewItem
   copied : List ℕ → ℕ → NewItem
 
--- the calls that take a record; 11 is for initialise and for items, the others take no n
+-- the calls that take a record; a call that cannot be stopped takes no heed of n
 pub data Call : Type 0 where
   initialising : ℕ → Call
   markingFull : Call
@@ -124,6 +124,20 @@ StoppedLeavesFirst =
     → (n < length (planOf call image page))
     × (imageOf call image page n ≡ run (take n (planOf call image page)) image)
     × (outcomeOf call image page n .page ≡ page)
+
+-- initialise and the calls that put an item can be told to stop
+abbrev pub takesN : Call → Bool
+takesN (initialising sequence) = true
+takesN markingFull = false
+takesN (putting new) = true
+takesN (erasing index span) = false
+takesN (purging namespace) = false
+
+-- and 11 is what they then answer, where n is below the total and no check refuses
+abbrev pub StopsBelowTotal : Type 0
+StopsBelowTotal =
+    (call : Call) (image : List ℕ) (page : ThinPage) (n : ℕ) → takesN call ≡ true
+    → accepted (checksOf call image page) ≡ true → n < length (planOf call image page) → outcomeOf call image page n ≡ answered Stopped page
 
 -- 1 to 10
 abbrev pub isRefusal : Answer → Bool
