@@ -3,6 +3,7 @@
 // Answers are 01's numbers. A call's units are found by stopping it at every n, until it is not stopped.
 mod appends;
 mod copies;
+mod cuts;
 mod headers;
 mod records;
 mod show;
@@ -11,4 +12,5 @@ fn main() {
     headers::print_all();
     appends::print_all();
     copies::print_all();
+    cuts::print_all();
 }
