@@ -4,7 +4,9 @@
 mod appends;
 mod copies;
 mod cuts;
+mod erases;
 mod headers;
+mod purges;
 mod records;
 mod show;
 
@@ -12,5 +14,7 @@ fn main() {
     headers::print_all();
     appends::print_all();
     copies::print_all();
+    erases::print_all();
+    purges::print_all();
     cuts::print_all();
 }
