@@ -3,7 +3,10 @@
 // Answers are 01's numbers. A call's units are found by stopping it at every n, until it is not stopped.
 mod appends;
 mod copies;
+mod cuts;
+mod erases;
 mod headers;
+mod purges;
 mod records;
 mod show;
 
@@ -11,4 +14,7 @@ fn main() {
     headers::print_all();
     appends::print_all();
     copies::print_all();
+    erases::print_all();
+    purges::print_all();
+    cuts::print_all();
 }
