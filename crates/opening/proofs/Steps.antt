@@ -1,32 +1,23 @@
 -- The walk as a loop takes it, from index to index: k entries stepped over are k entries dropped.
 -- Assumes nothing.
 use mathlib.Core.Path.{_≡_, refl, sym, ap, _∙_}
-use mathlib.Core.Bool.{Bool, true, false, _||_, not, cond}
+use mathlib.Core.Bool.{Bool, true, false}
 use mathlib.Core.List.{List, [], _∷_, _++_}
 use mathlib.Core.Option.{Option, none, some}
 use Prim.Native.Nat.{ℕ, zero, suc, _+_, _≤_, zero-le}
 use native.Mathlib.Nat.{le-of-suc-le-suc, not-suc-le-zero, add-zero, add-suc, suc-add}
 use native.Mathlib.Omega.{arith}
-use lib.Dec.{eqb, ltb}
-use borrow.Author.Tests.{ltb-false}
 use lib.ListN.{length, take, drop, replicate}
 use Rattle.sector.specs.declared.EntryMapState.{EntryMapState}
 use Rattle.sector.specs.declared.EntryMapState.the-variants.{Empty, Written, Erased, Illegal}
-use Rattle.flash.specs.Flash.{allOnes}
-use Rattle.sector.specs.Item.{crcRight}
-use Rattle.sector.specs.Layout.{spanOf}
-use Rattle.opening.specs.Reading.{Reason, AllOnes, CrcWrong, SpanOffPage, spanOffPage, Kept, covered, headerRefusal, payloadRefusal, usable, itemVerdict, headerVerdict, verdictAt, stepsOver, walk, keptFrom}
+use Rattle.opening.specs.Reading.{Reason, Kept, covered, headerRefusal, payloadRefusal, usable, itemVerdict, headerVerdict, verdictAt, stepsOver, walk, keptFrom}
 use Rattle.opening.specs.Opening.{refusedHeaders}
-
-walk-mark : (mark : EntryMapState) (states : List EntryMapState) (entries : List (List ℕ))
-    → walk zero mark states entries ≡ walk zero Erased states entries
-walk-mark mark [] entries = refl
-walk-mark mark (s ∷ states) [] = refl
-walk-mark mark (s ∷ states) (entry ∷ entries) = refl
+use Rattle.opening.proofs.Midway.{walk-zero}
+use Rattle.opening.proofs.Verdicts.{header-fits}
 
 pub walk-skip : (k : ℕ) (mark : EntryMapState) (states : List EntryMapState) (entries : List (List ℕ)) → k ≤ length states → k ≤ length entries
     → walk k mark states entries ≡ replicate k mark ++ walk zero Erased (drop k states) (drop k entries)
-walk-skip zero mark states entries h g = walk-mark mark states entries
+walk-skip zero mark states entries h g = walk-zero mark Erased states entries
 walk-skip (suc k) mark [] entries h g = absurd (not-suc-le-zero h)
 walk-skip (suc k) mark (s ∷ states) [] h g = absurd (not-suc-le-zero g)
 walk-skip (suc k) mark (s ∷ states) (entry ∷ entries) h g =
@@ -50,23 +41,6 @@ kept-skip (suc k) i (s ∷ states) (entry ∷ entries) h g =
 
 -- ---- what a verdict says of the states and entries that it was made of
 
-no-rule : (applies : Bool) (reason : Reason) (rest : Option Reason) → cond applies (some reason) rest ≡ none
-    → (applies ≡ false) × (rest ≡ none)
-no-rule true reason rest e = let z : _≡_ {A = ℕ} 0 1 = cc in absurd (omega arith)
-no-rule false reason rest e = (refl, e)
-
-or-false-right : (a b : Bool) → (a || b) ≡ false → b ≡ false
-or-false-right true b e = let z : _≡_ {A = ℕ} 0 1 = cc in absurd (omega arith)
-or-false-right false b e = e
-
-covered-le : (entry : List ℕ) (left : ℕ) → headerRefusal entry left ≡ none → covered entry ≤ left
-unfolding headerRefusal
-covered-le entry left e =
-    let loads = no-rule (allOnes entry) AllOnes _ e .1 in
-    let span = no-rule (not (crcRight entry)) CrcWrong _ loads .1 in
-    let within = no-rule (spanOffPage entry left) SpanOffPage _ span .0 in
-    ltb-false left (covered entry) (or-false-right (eqb (spanOf entry) 0) (ltb left (covered entry)) within)
-
 steps-over-item : (refusal : Option Reason) (allUsable : Bool) (k : ℕ) → stepsOver (itemVerdict refusal allUsable k) ≡ k
 steps-over-item (some reason) allUsable k = refl
 steps-over-item none true k = refl
@@ -83,7 +57,7 @@ steps-over-le Written entry states entries = go (headerRefusal entry (length ent
     go (some reason) e = zero-le
     go none e =
         rw (steps-over-item (payloadRefusal entry (take (covered entry) entries)) (usable (covered entry) states) (covered entry))
-        (covered-le entry (length entries) e)
+        (header-fits entry (length entries) e)
 steps-over-le Erased entry states entries = zero-le
 steps-over-le Illegal entry states entries = zero-le
 
