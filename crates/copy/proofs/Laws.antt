@@ -3,11 +3,12 @@
 use mathlib.Core.Path.{_≡_, refl, sym, ap}
 use mathlib.Core.Bool.{Bool, true, false, _||_, false≢true}
 use mathlib.Core.List.{List, _++_}
-use Prim.Native.Nat.{ℕ, zero, suc, _+_, _-_, _*_, _≤_, _<_}
+use Prim.Native.Nat.{ℕ, _+_, _-_, _*_, _≤_, _<_}
+use native.Mathlib.Nat.{pos-of-ne-zero}
 use native.Mathlib.Omega.{arith}
 use lib.Dec.{eqb, ltb}
 use lib.ListN.{length, getD, take, drop}
-use borrow.Author.Tests.{eqb-true, ltb-true, ltb-false, not-false}
+use borrow.Author.Tests.{eqb-true, eqb-false, ltb-true, ltb-false, not-false}
 use Rattle.flash.specs.Flash.{units}
 use Rattle.load.proofs.Laws.{accepted-at}
 use Rattle.page.specs.declared.ThinPage.{ThinPage}
@@ -27,10 +28,6 @@ neither : (a b : Bool) → (a || b) ≡ false → (a ≡ false) × (b ≡ false)
 neither true b h = absurd (false≢true (sym h))
 neither false b h = (refl, h)
 
-positive : (n : ℕ) → eqb n 0 ≡ false → 1 ≤ n
-positive zero h = absurd (false≢true (sym h))
-positive (suc n) h = omega arith
-
 -- what passes all of copy's checks
 pub record CopyFits (image : List ℕ) (page : ThinPage) (source : List ℕ) (i : ℕ) : Type 0 where
   pub whole : length image ≡ sectorSize
@@ -46,7 +43,7 @@ copy-fits image page source i h =
     let at : (n : ℕ) → getD (copyChecks image page source i) n (false, Done) .0 ≡ false = λ n. accepted-at (copyChecks image page source i) n h in
     let span : ℕ = spanOf (entryAt source i) in
     let range = neither (eqb span 0) (ltb entriesPerPage (i + span)) (at 6) in
-    let some = positive span (range .0) in
+    let some = pos-of-ne-zero (eqb-false span 0 (range .0)) in
     let room = ltb-false (free page) span (at 7) in
     record {
       whole = eqb-true _ _ (not-false _ (at 0));

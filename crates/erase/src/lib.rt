@@ -114,9 +114,9 @@ fn erase_refusal(image: &[u8], page: ThinPage, index: usize, span: usize) -> Ans
 // ---- erase: the record
 
 // A list of places, and how many are in use.
-pub struct Places {
-    pub list: [Listed; 126],
-    pub len: u8,
+struct Places {
+    list: [Listed; 126],
+    len: u8,
 }
 
 // The places in use that name another index, in their order, and zero places behind them (`item_hash_list.retain`).
@@ -169,8 +169,8 @@ fn with_erased(page: ThinPage, index: usize, span: usize) -> ThinPage
 // Marks the entries of an item Erased (`ThinPage::erase_item`), all of which must be Written in the record; its bytes stay.
 //
 // Refuses, in this order: BadImage, BadRecord, WrongState unless Active, Full or Freeing, a span of 0 or entries that leave
-// the page (CorruptedData), an entry that is not Written (NotWritten). The Rust checks none of these: it panics on a span of
-// 0 or an index over 127, and its counts saturate.
+// the page (CorruptedData), an entry that is not Written (NotWritten). The Rust checks none of these, and lets its counts
+// saturate.
 pub fn erase_item(image: &mut [u8], page: ThinPage, index: usize, span: usize) -> Outcome
     ensures answer { λ r. ⌜ r ≡ erase (now (image .entry)) page index span ⌝ }
     ensures image { λ r. ⌜ now (image .exit) ≡ eraseImage (now (image .entry)) page index span ⌝ }
@@ -226,10 +226,10 @@ fn held_span(index: usize, span: usize) -> usize
     span
 }
 
-// Zeroes entries from an index on (`ThinPage::purge_entries`), at least one and no further than the page; an index over 125
-// does nothing. Neither map nor record changes, so it takes none.
+// Zeroes entries from an index on (`ThinPage::purge_entries`), at least one and none past the page; an index over 125 does
+// nothing. The map stays as it is, so no record is taken.
 //
-// Refuses an image that is not 4,096 bytes (BadImage) and nothing else, as the Rust.
+// Refuses only an image that is not 4,096 bytes (BadImage), of which the Rust knows nothing.
 pub fn purge_entries(image: &mut [u8], index: usize, span: usize) -> Answer
     ensures answer { λ r. ⌜ r ≡ purge (now (image .entry)) ⌝ }
     ensures image { λ r. ⌜ now (image .exit) ≡ purgeImage (now (image .entry)) index span ⌝ }
@@ -247,9 +247,9 @@ pub fn purge_entries(image: &mut [u8], index: usize, span: usize) -> Answer
 // ---- purge by namespace
 
 // What the walk does at an entry: whether the entry is zeroed, and how many behind it go the same way.
-pub struct Step {
-    pub zeroed: bool,
-    pub behind: usize,
+struct Step {
+    zeroed: bool,
+    behind: usize,
 }
 
 // The step over an entry that may head an item: with its span where it loads, else by one.
@@ -323,8 +323,8 @@ fn zero_marked(image: &mut [u8], marks: [bool; 126])
 
 // Zeroes the Erased items of a namespace (`ThinPage::purge_erased_for_namespace`); the record comes back as it was.
 //
-// Refuses, in this order: BadImage, BadRecord. The Rust zeroes as it walks: what it has zeroed lies behind it, so it reads
-// the same items.
+// Refuses, in this order: BadImage, BadRecord; in any state. Which entries to zero is found out first. The Rust zeroes as it
+// walks: what it has zeroed lies behind it, so it reads the same items.
 pub fn purge_erased_for_namespace(image: &mut [u8], page: ThinPage, namespace: u8) -> Outcome
     ensures answer { λ r. ⌜ r ≡ purgeNamespace (now (image .entry)) page namespace ⌝ }
     ensures image { λ r. ⌜ now (image .exit) ≡ purgeNamespaceImage (now (image .entry)) page namespace ⌝ }
