@@ -31,7 +31,9 @@ pub(crate) fn answered(answer: Answer) {
         Answer::BadImage => text(b"1 BadImage: the image is not 4,096 bytes"),
         Answer::BadRecord => text(b"2 BadRecord: the record is not fit to use"),
         Answer::WrongState => text(b"3 WrongState: the page is not Active"),
-        Answer::BadRequest => text(b"4 BadRequest: the item is in namespace 0, or not of the call's types"),
+        Answer::BadRequest => text(
+            b"4 BadRequest: the item is in namespace 0, or not of the call's types",
+        ),
         Answer::ValueTooLong => text(b"5 ValueTooLong: the item takes more than 126 entries"),
         Answer::PageFull => text(b"6 PageFull: the item takes more entries than are free"),
         Answer::KeyNotFound => text(b"7 KeyNotFound: there is no item at the entry"),

@@ -77,10 +77,10 @@ finishedBy before request payload =
     record {
       answer = appended (before .image) (before .page) request payload most .answer;
       sector =
-        record {
-          image = appendedImage (before .image) (before .page) request payload most;
-          page = appended (before .image) (before .page) request payload most .page;
-        };
+          record {
+            image = appendedImage (before .image) (before .page) request payload most;
+            page = appended (before .image) (before .page) request payload most .page;
+          };
     }
 
 -- ---- two sectors

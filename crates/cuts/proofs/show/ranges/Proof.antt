@@ -1,4 +1,5 @@
 -- `show::ranges` is safe and ends: each range ends at or behind its start and at the last cut at most, and no more cuts are counted than were passed.
+use mathlib.Core.Logic.{⊎-elim}
 use Prim.Native.Nat.{_≤_, _+_, _-_}
 use native.Mathlib.Omega.{arith}
 use borrow.Author.Needs.{needs}
@@ -10,6 +11,10 @@ Inv-loop name before after request payload units otherwise₀ n₀ otherwise n =
 
 abbrev μ-loop : tie.MeasureT-loop
 μ-loop name before after request payload units otherwise₀ n₀ otherwise n = units + 1 - n
+
+-- a range ends at the last cut at most
+within : (c : tie.After-last-alike Inv-loop μ-loop) → c .last-alike .result ≤ c .before .before .before .before .before .args .units
+within c = c .last-alike .ensures .0 .1 (search needs)
 
 loop-holds : tie.Need-loop-holds Inv-loop μ-loop
 loop-holds c = search needs
@@ -30,19 +35,19 @@ sub-otherwise : tie.Need-sub-otherwise Inv-loop μ-loop
 sub-otherwise c = search needs
 
 add-otherwise : tie.Need-add-otherwise Inv-loop μ-loop
-add-otherwise c = search needs
+add-otherwise c = let last = within (c .before .before .before .before) in omega arith
 
 add-otherwise-2 : tie.Need-add-otherwise-2 Inv-loop μ-loop
-add-otherwise-2 c = search needs
+add-otherwise-2 c = let last = within (c .before .before .before .before) in omega arith
 
 add-n : tie.Need-add-n Inv-loop μ-loop
-add-n c = search needs
+add-n c = let last = within (c .before .before .before .before) in omega arith
 
 loop-less : tie.Need-loop-less Inv-loop μ-loop
 loop-less c = search needs
 
 loop-again : tie.Need-loop-again Inv-loop μ-loop
-loop-again c = search needs
+loop-again c = let last = within (c .before .before .before .before) in ⊎-elim (λ w. (omega arith, omega arith)) (λ w. (omega arith, omega arith)) (c .if1 .came)
 
 returns : tie.Need-returns Inv-loop μ-loop
 returns c = search needs
