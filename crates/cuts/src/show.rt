@@ -1,0 +1,123 @@
+// Standard output: the lines of a run.
+ghost use Prim.Native.Nat.{_≤_};
+use cutting::Found;
+use cutting::Request;
+use cutting::Sector;
+use libc::STDOUT_FILENO;
+use page::write;
+use sector::Answer;
+
+pub(crate) fn text(bytes: &[u8]) {
+    io::write_all(STDOUT_FILENO, bytes);
+}
+
+// A number, with a comma behind the thousands.
+pub(crate) fn number(value: usize) {
+    if value < 1000 {
+        io::print_decimal(STDOUT_FILENO, value as u64);
+        return;
+    }
+    io::print_decimal(STDOUT_FILENO, (value / 1000) as u64);
+    text(b",");
+    io::print_decimal(STDOUT_FILENO, (value / 100 % 10) as u64);
+    io::print_decimal(STDOUT_FILENO, (value / 10 % 10) as u64);
+    io::print_decimal(STDOUT_FILENO, (value % 10) as u64);
+}
+
+// An answer's number and name, and when it comes.
+pub(crate) fn answered(answer: Answer) {
+    match answer {
+        Answer::Done => text(b"0 Done"),
+        Answer::BadImage => text(b"1 BadImage: the image is not 4,096 bytes"),
+        Answer::BadRecord => text(b"2 BadRecord: the record is not fit to use"),
+        Answer::WrongState => text(b"3 WrongState: the page is not Active"),
+        Answer::BadRequest => text(
+            b"4 BadRequest: the item is in namespace 0, or not of the call's types",
+        ),
+        Answer::ValueTooLong => text(b"5 ValueTooLong: the item takes more than 126 entries"),
+        Answer::PageFull => text(b"6 PageFull: the item takes more entries than are free"),
+        Answer::KeyNotFound => text(b"7 KeyNotFound: there is no item at the entry"),
+        Answer::ItemTypeMismatch(_) => text(b"8 ItemTypeMismatch: the item is of another type"),
+        Answer::CorruptedData => text(b"9 CorruptedData: the header is not that of an open page"),
+        Answer::NotWritten => text(b"10 NotWritten: the entry is not Written"),
+        Answer::Stopped => text(b"11 Stopped: the append has more units"),
+    }
+}
+
+fn found(name: &[u8], what: Found) {
+    if is_otherwise(what) {
+        text(b": found otherwise\n");
+        return;
+    }
+    text(b": opens, the ");
+    text(name);
+    match what {
+        Found::Absent => text(b" is absent\n"),
+        Found::Whole => text(b" is there, whole\n"),
+        Found::Otherwise => text(b"\n"),
+    }
+}
+
+fn is_otherwise(what: Found) -> bool {
+    match what {
+        Found::Absent => false,
+        Found::Whole => false,
+        Found::Otherwise => true,
+    }
+}
+
+fn range(name: &[u8], first: usize, last: usize, what: Found) {
+    text(b"cut after ");
+    number(first);
+    if first != last {
+        text(b" to ");
+        number(last);
+    }
+    text(b" units");
+    found(name, what);
+}
+
+// A line for each run of cuts that are found alike; how many were found otherwise.
+fn ranges(
+    name: &[u8],
+    before: Sector,
+    after: Sector,
+    request: Request,
+    payload: &[u8],
+    units: usize,
+) -> usize
+    requires { ⌜ units ≤ 1100 ⌝ }
+{
+    let mut otherwise = 0;
+    let mut n = 0;
+    while n <= units {
+        let last = cutting::last_alike(before, after, request, payload, n, units);
+        let what = cutting::found_after(before, after, request, payload, n);
+        range(name, n, last, what);
+        if is_otherwise(what) {
+            otherwise += last - n + 1;
+        }
+        n = last + 1;
+    }
+    otherwise
+}
+
+// All the cuts of an append, or why it is refused.
+pub(crate) fn cuts(name: &[u8], before: Sector, request: Request, payload: &[u8]) {
+    let finished = cutting::finish(before, request, payload);
+    let answer = finished.answer;
+    if !write::is_done(answer) {
+        text(b": the append is refused, ");
+        answered(answer);
+        text(b"\n");
+        return;
+    }
+    let after = finished.sector;
+    let units = cutting::count_units(before, request, payload);
+    text(b": ");
+    number(units);
+    text(b" units\n");
+    let otherwise = ranges(name, before, after, request, payload, units);
+    number(otherwise);
+    text(b" cuts found otherwise\n");
+}

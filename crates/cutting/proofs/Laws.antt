@@ -1,0 +1,72 @@
+-- Laws of the comparisons: two lists from k on, place by place; runs of cuts that are found alike.
+-- Assumes nothing.
+use mathlib.Core.Path.{_≡_, refl, sym, ap, _∙_}
+use mathlib.Core.Bool.{Bool, true, false, _&&_, and-false}
+use mathlib.Core.List.{List, [], _∷_}
+use mathlib.Core.Logic.{⊎-elim}
+use Prim.Native.Nat.{ℕ, suc, _+_, _<_, _≤_}
+use native.Mathlib.Numerals.{add-one}
+use native.Mathlib.Nat.{eq-or-lt-of-le}
+use native.Mathlib.Omega.{arith}
+use lib.Dec.{eqb}
+use lib.ListN.{length, getD, drop}
+use lib.Seq.{drop-cons, drop-length}
+use borrow.Author.Tests.{eq-eqb, ne-eqb}
+use Rattle.opening.specs.Opening.{sameBytes}
+use Rattle.page.specs.declared.Listed.{Listed}
+use Rattle.page.specs.Record.{noItem}
+use Rattle.cutting.specs.Cutting.{samePlace, sameList, Found, Absent, Whole, Otherwise, sameFound}
+
+-- lists of two lengths are not the same
+pub same-bytes-length : (xs ys : List ℕ) → (length xs ≡ length ys → ⊥) → sameBytes xs ys ≡ false
+same-bytes-length [] [] h = absurd (h refl)
+same-bytes-length [] (y ∷ ys) h = ne-eqb _ _ (λ e. h (sym e))
+same-bytes-length (x ∷ xs) [] h = refl
+same-bytes-length (x ∷ xs) (y ∷ ys) h =
+    ap (λ (b : Bool). eqb x y && b) (same-bytes-length xs ys (λ e. h (ap suc e))) ∙ and-false (eqb x y)
+
+module _ (xs ys : List ℕ) (k : ℕ) (inside : k < length xs) (within : k < length ys) where
+  -- two lists from k on: their first elements, and what is behind them
+  same-bytes-drop : sameBytes (drop k xs) (drop k ys) ≡ (eqb (getD xs k 0) (getD ys k 0) && sameBytes (drop (k + 1) xs) (drop (k + 1) ys))
+  same-bytes-drop = rw (add-one k, drop-cons xs k 0 inside, drop-cons ys k 0 within)
+
+  pub same-bytes-pass : getD xs k 0 ≡ getD ys k 0 → sameBytes (drop k xs) (drop k ys) ≡ sameBytes (drop (k + 1) xs) (drop (k + 1) ys)
+  same-bytes-pass e = same-bytes-drop ∙ ap (λ (b : Bool). b && sameBytes (drop (k + 1) xs) (drop (k + 1) ys)) (eq-eqb _ _ e)
+
+  pub same-bytes-differ : (getD xs k 0 ≡ getD ys k 0 → ⊥) → sameBytes (drop k xs) (drop k ys) ≡ false
+  same-bytes-differ h = same-bytes-drop ∙ ap (λ (b : Bool). b && sameBytes (drop (k + 1) xs) (drop (k + 1) ys)) (ne-eqb _ _ h)
+
+-- two lists that end at k
+pub same-bytes-end : (xs ys : List ℕ) (k : ℕ) → k ≡ length xs → length xs ≡ length ys → sameBytes (drop k xs) (drop k ys) ≡ true
+same-bytes-end xs ys k e f = rw (e, drop-length xs, f, drop-length ys)
+
+pub same-list-drop : (xs ys : List Listed) (k : ℕ) → k < length xs → k < length ys
+    → sameList (drop k xs) (drop k ys)
+    ≡ (samePlace (getD xs k noItem) (getD ys k noItem) && sameList (drop (k + 1) xs) (drop (k + 1) ys))
+unfolding sameList
+same-list-drop xs ys k h g = rw (add-one k, drop-cons xs k noItem h, drop-cons ys k noItem g)
+
+pub same-list-end : (xs ys : List Listed) (k : ℕ) → k ≡ length xs → length xs ≡ length ys → sameList (drop k xs) (drop k ys) ≡ true
+unfolding sameList
+same-list-end xs ys k e f = rw (e, drop-length xs, f, drop-length ys)
+
+pub same-found : (a b : Found) → sameFound a b ≡ true → a ≡ b
+same-found Absent Absent e = refl
+same-found Absent Whole e = cc
+same-found Absent Otherwise e = cc
+same-found Whole Absent e = cc
+same-found Whole Whole e = refl
+same-found Whole Otherwise e = cc
+same-found Otherwise Absent e = cc
+same-found Otherwise Whole e = cc
+same-found Otherwise Otherwise e = refl
+
+-- a run of one
+pub alike-one : (f : ℕ → Found) (first : ℕ) → (k : ℕ) → first ≤ k → k ≤ first → f k ≡ f first
+alike-one f first k h g = ap f (omega arith)
+
+-- a run of one more
+pub alike-more : (f : ℕ → Found) (first n : ℕ) → ((k : ℕ) → first ≤ k → k ≤ n → f k ≡ f first) → f (n + 1) ≡ f first
+    → (k : ℕ) → first ≤ k → k ≤ n + 1 → f k ≡ f first
+alike-more f first n alike next k h g =
+    ⊎-elim (λ e. ap f e ∙ next) (λ l. alike k h (omega arith)) (eq-or-lt-of-le g)
