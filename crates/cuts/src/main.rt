@@ -1,6 +1,4 @@
-// Cuts an append after every number of units, opens the page each time, and prints what was found.
-//
-// With no argument: a 4,000-byte curve on a fresh page. With FILE KIND NAMESPACE LENGTH: an item on the sector in a file.
+// Cuts the append of a 4,000-byte curve to a fresh page after every number of units, opens the page each time, and prints what was found.
 mod fresh;
 mod show;
 

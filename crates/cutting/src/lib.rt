@@ -12,7 +12,6 @@ use page::write;
 use sector::Answer;
 use sector::ENTRIES_PER_PAGE;
 
-pub mod text;
 
 const ITEMS_OFFSET: usize = 64;
 
