@@ -12,7 +12,6 @@ use page::write;
 use sector::Answer;
 use sector::ENTRIES_PER_PAGE;
 
-
 const ITEMS_OFFSET: usize = 64;
 
 const ITEM_SIZE: usize = 32;

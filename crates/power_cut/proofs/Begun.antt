@@ -30,7 +30,8 @@ use Rattle.opening.specs.Opening.{keptItems}
 use Rattle.opening.proofs.Verdicts.{States, Entries, Whole}
 use Rattle.opening.proofs.Closed.{Closed, closed-append-item}
 use Rattle.opening.proofs.Cuts.{Marking, kept-unmarked, kept-marked}
-use Rattle.power_cut.proofs.Chunks.{chunks-append, length-chunks}
+use Rattle.opening.proofs.Entries.{length-chunks}
+use Rattle.power_cut.proofs.Chunks.{chunks-append}
 use Rattle.power_cut.proofs.Standing.{Standing, entries-two, standing-map-bytes, front-bytes, front-size, regroup}
 
 -- ---- a write

@@ -19,6 +19,7 @@ use Rattle.crc.specs.Crc.{crc32}
 use Rattle.sector.specs.Item.{crcStart, itemBytes, sizedData}
 use Rattle.sector.specs.Layout.{entryAddress, entryAt, chunks, entriesOf, mapOf, spanOf, littleEndian}
 use Rattle.sector.specs.Map.{statesOf}
+use Rattle.sector.proofs.Laws.{length-statesOf}
 use Rattle.sector.specs.Types.{itemType, hasPayload}
 use Rattle.append.specs.declared.Single.{Single}
 use Rattle.append.specs.declared.Variable.{Variable}
@@ -26,13 +27,14 @@ use Rattle.append.specs.Append.{isSingle, singleBytes, spanFor, variableHeader}
 use Rattle.copy.specs.Copy.{copiedBytes}
 use Rattle.opening.specs.Opening.{keptItems}
 use Rattle.opening.specs.Reading.{Item}
-use Rattle.opening.proofs.Verdicts.{Entries, Whole}
+use Rattle.opening.proofs.Verdicts.{Entries, Whole, whole-span}
 use Rattle.power_cut.specs.History.{allBytes, SingleRequest, VariableRequest, KeptIn, payloadEntries}
 use Rattle.power_cut.proofs.Standing.{Standing, front-bytes, front-size, regroup, blank-parts}
-use Rattle.power_cut.proofs.Chunks.{length-chunks, take-chunks, drop-chunks, chunks-take}
+use Rattle.opening.proofs.Entries.{length-entries, length-chunks, take-chunks, drop-chunks}
+use Rattle.power_cut.proofs.Chunks.{chunks-take}
 use Rattle.power_cut.proofs.NewItem.{single-whole, variable-whole}
 use Rattle.power_cut.proofs.Begun.{Lays}
-use Rattle.power_cut.proofs.KeptAt.{KeptAt, kept-at, header-span}
+use Rattle.opening.proofs.KeptItem.{WholeAt, kept-whole}
 
 -- ---- bytes
 
@@ -198,9 +200,13 @@ module _ {image : List ℕ} {items : List Item} (p : Standing image items) where
   -- ---- a copy of an item that the source's reading keeps
 
   module _ (source : List ℕ) (index : ℕ) (entries : Entries) (kept : KeptIn source index entries) where
-    pub place : KeptAt 0 index entries (entriesOf source)
+    source-map : length (mapOf source) ≡ 32
+    source-map = length-take-le 32 (drop 32 source) (rw length-drop (omega (arith, kept .sector .size)))
+
+    pub place : WholeAt index entries (entriesOf source)
     unfolding keptItems
-    place = kept-at zero zero (statesOf (mapOf source)) (entriesOf source) (kept .kept)
+    place =
+        kept-whole (statesOf (mapOf source)) (entriesOf source) (length-statesOf (mapOf source) source-map ∙ sym (length-entries source)) (kept .kept)
 
     abbrev bytes-there : List ℕ
     bytes-there = drop (entryAddress index) source
@@ -208,29 +214,30 @@ module _ {image : List ℕ} {items : List Item} (p : Standing image items) where
     abbrev count : ℕ
     count = suc (length (place .new))
 
-    offset-is : place .offset ≡ index
-    offset-is = omega (arith, place .at)
+    group-long : length entries ≡ count
+    group-long = ap length (place .header-first)
 
     inside : index + count ≤ 126
-    inside = omega (arith, place .fits, offset-is, length-chunks 126 (drop 64 source))
+    inside = omega (arith, place .fits, group-long, length-entries source)
 
-    there-is : chunks count bytes-there ≡ place .entry ∷ place .new
+    there-is : chunks count bytes-there ≡ place .header ∷ place .new
     there-is =
         let bytes = drop 64 source in
         ap (chunks count) (sym (drop-drop (32 * index) 64 source))
         ∙ sym (take-chunks count (126 - index) (drop (32 * index) bytes) (omega (arith, inside)))
         ∙ ap (take count) (sym (drop-chunks index 126 bytes (omega (arith, inside))))
-        ∙ ap (λ (offset : ℕ). take count (drop offset (chunks 126 bytes))) (sym offset-is)
-        ∙ place .there
+        ∙ ap (λ (k : ℕ). take k (drop index (chunks 126 bytes))) (sym group-long)
+        ∙ place .bytes
+        ∙ place .header-first
 
-    pub entry-is : entryAt source index ≡ place .entry
+    pub entry-is : entryAt source index ≡ place .header
     unfolding chunks
     entry-is =
-        let e : take 32 bytes-there ∷ chunks (length (place .new)) (drop 32 bytes-there) ≡ place .entry ∷ place .new = there-is in
+        let e : take 32 bytes-there ∷ chunks (length (place .new)) (drop 32 bytes-there) ≡ place .header ∷ place .new = there-is in
         cc
 
     pub copied-span : spanOf (entryAt source index) ≡ count
-    copied-span = ap spanOf entry-is ∙ header-span (place .entry) (length (place .new)) (place .whole .header) ∙ ap suc (place .whole .span)
+    copied-span = ap spanOf entry-is ∙ whole-span (place .whole)
 
     copied-is : copiedBytes source index ≡ take (32 * count) bytes-there
     copied-is = ap (λ (n : ℕ). take (32 * n) bytes-there) copied-span
@@ -239,9 +246,9 @@ module _ {image : List ℕ} {items : List Item} (p : Standing image items) where
     source-size = length-drop (entryAddress index) source ∙ ap (λ (n : ℕ). n - entryAddress index) (kept .sector .size)
 
     pub lays-copy : spanOf (entryAt source index) ≤ p .spare
-        → Lays p (place .entry) (place .new) (units (entryAddress (length (p .front))) (copiedBytes source index))
+        → Lays p (place .header) (place .new) (units (entryAddress (length (p .front))) (copiedBytes source index))
     lays-copy room =
-        lays-whole (place .entry) (place .new) (copiedBytes source index)
+        lays-whole (place .header) (place .new) (copiedBytes source index)
         (ap length copied-is ∙ length-take-le (32 * count) bytes-there (omega (arith, source-size, inside)))
         (ap (chunks count) copied-is ∙ chunks-take count bytes-there ∙ there-is)
         (place .whole)

@@ -6,7 +6,6 @@ pub mod Standing
 pub mod MapUnits
 pub mod OpenedPage
 pub mod Begun
-pub mod KeptAt
 pub mod Laid
 pub mod AtHand
 pub mod Headers

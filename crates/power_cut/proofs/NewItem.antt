@@ -28,7 +28,7 @@ use Rattle.append.specs.Append.{isSingle, singleBytes, spanFor, variableHeader}
 use Rattle.opening.specs.Reading.{firstRule, isPayload, covered, spanOffPage, wrongSpan, headerRefusal, joined, sizeTooBig, payloadCrcWrong, payloadRefusal}
 use Rattle.opening.proofs.Verdicts.{Entries, Whole}
 use Rattle.power_cut.specs.History.{SingleRequest, VariableRequest, payloadEntries}
-use Rattle.power_cut.proofs.Chunks.{length-chunks, joined-chunks}
+use Rattle.opening.proofs.Entries.{length-chunks, joined-chunks}
 
 -- ---- types with a byte of their own
 

@@ -26,7 +26,8 @@ use Rattle.opening.proofs.Reopened.{length-openedStates, kept-openedStates}
 use Rattle.opening.proofs.TwoPasses.{clears-firstStates, clears-secondPass}
 use Rattle.opening.proofs.OpenedFront.{Opened, opened}
 use Rattle.opening.proofs.Cuts.{kept-unmarked}
-use Rattle.power_cut.proofs.Chunks.{chunks-append, length-chunks, suc-entries}
+use Rattle.opening.proofs.Entries.{length-chunks}
+use Rattle.power_cut.proofs.Chunks.{chunks-append, suc-entries}
 use Rattle.power_cut.proofs.MapUnits.{splice-all, run-changed}
 use Rattle.power_cut.proofs.Standing.{Standing}
 

@@ -24,7 +24,8 @@ use Rattle.opening.proofs.Verdicts.{States, Entries}
 use Rattle.opening.proofs.Closed.{Closed}
 use Rattle.opening.proofs.TwoPasses.{firstPass-same}
 use Rattle.opening.proofs.Cuts.{kept-unmarked, openedStates-unmarked-blank}
-use Rattle.power_cut.proofs.Chunks.{chunks-append, length-chunks, suc-entries}
+use Rattle.opening.proofs.Entries.{length-chunks}
+use Rattle.power_cut.proofs.Chunks.{chunks-append, suc-entries}
 
 -- ---- the page
 

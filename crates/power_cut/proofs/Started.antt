@@ -36,13 +36,13 @@ use Rattle.opening.specs.Reading.{Item, item}
 use Rattle.opening.specs.Opening.{listedItems}
 use Rattle.opening.proofs.Verdicts.{States, Entries}
 use Rattle.opening.proofs.Closed.{Closed}
+use Rattle.opening.proofs.KeptItem.{WholeAt}
 use Rattle.opening.proofs.OpenedFront.{Opened, count-opened}
 use Rattle.power_cut.specs.History.{SingleRequest, VariableRequest, KeptIn, Write, a-single, a-variable, a-copy, outcomeOf, imageOf, entriesOfWrite, entryUnits, payloadEntries}
 use Rattle.power_cut.specs.PowerCut.{Begins}
-use Rattle.power_cut.proofs.Chunks.{length-chunks}
+use Rattle.opening.proofs.Entries.{length-chunks}
 use Rattle.power_cut.proofs.Standing.{Standing}
 use Rattle.power_cut.proofs.Begun.{Lays}
-use Rattle.power_cut.proofs.KeptAt.{KeptAt}
 use Rattle.power_cut.proofs.Laid.{lays-single, lays-variable, place, copied-span, entry-is, lays-copy}
 use Rattle.power_cut.proofs.AtHand.{pageOf}
 use Rattle.power_cut.proofs.Accepted.{refusing, begins-accepted, done-whole, done-page, done-plan}
@@ -206,7 +206,7 @@ module _ {image : List ℕ} {items : List Item} (p : Standing image items) where
     abbrev copied : Write
     copied = a-copy source index entries kept
 
-    abbrev there : KeptAt 0 index entries (entriesOf source)
+    abbrev there : WholeAt index entries (entriesOf source)
     there = place p source index entries kept
 
     pub started-copy : Begins copied image page n → Started copied n
@@ -233,10 +233,10 @@ module _ {image : List ℕ} {items : List Item} (p : Standing image items) where
         let last = accepted-tail (wrong .0) CorruptedData (room ∷ []) (accepted-tail (gone .0) KeyNotFound (wrong ∷ room ∷ []) (accepted-tail (off .0) CorruptedData (gone ∷ wrong ∷ room ∷ []) (u .rest))) in
         let fits = ltb-false (free page) span (accepted-head (room .0) PageFull [] last) in
         record {
-          entry = there .entry;
+          entry = there .header;
           new = there .new;
           lays = rw next-is (lays-copy p source index entries kept (room-in span fits));
-          entries-is = there .same;
+          entries-is = there .header-first;
           image-is = rw (← same) (image-cut checks refl us span made n ok);
           active = usable-active u;
           short = usable-short span u (omega (arith, same)) fits;
