@@ -1,0 +1,63 @@
+-- `nvs_load_data` meets its contract: a wrong size changes nothing, else the call's answer is laid out.
+use mathlib.Core.Path.{refl, ap, _∙_}
+use mathlib.Core.List.{List}
+use lib.ListN.{length}
+use borrow.Author.Needs.{needs}
+use Rattle.load.specs.declared.DataLoaded.{DataLoaded}
+use Rattle.load.specs.Load.{dataAnswer, dataOutput}
+use Rattle.sector.specs.Answers.{numberOf, carriedByte}
+use Rattle.encoding.specs.Encoding.{answerBytes, noItem, noCounts}
+use Rattle.boundary.specs.Boundary.{badAnswer, dataGiven, dataLeft}
+use Rattle.boundary.proofs.Laws.{wrong-size, right-size, given-bad, given-answer}
+use Rattle.boundary.proofs.reading.nvs_load_data.Statement.{statement}
+use Rattle.boundary.proofs.reading.nvs_load_data.Tie as tie
+
+returns : tie.Need-returns
+unfolding dataGiven dataLeft
+returns c =
+    let z = c .before .before .before .before .args in
+    let buffer = z .buffer .now in
+    let bad = wrong-size 57 buffer (c .if1 .taken) in
+    let answer = dataAnswer (z .image .now) (z .index) (length (z .output .now)) in
+    let both = given-bad (badAnswer buffer) buffer (answer .answer) (answer .size) noItem noCounts bad in
+    (both .0, (rw bad, both .1))
+
+load-referenced-data-into-requires : tie.Need-load-referenced-data-into-requires
+load-referenced-data-into-requires c κs = search needs
+
+give-number-requires : tie.Need-give-number-requires
+give-number-requires c κs = search needs
+
+same-length : tie.Need-same-length
+same-length c = search needs
+
+same-length-2 : tie.Need-same-length-2
+same-length-2 c = search needs
+
+returns-2 : tie.Need-returns-2
+unfolding dataGiven dataLeft
+returns-2 c =
+    let gave = c .before .before in
+    let found = gave .before .before .before .before in
+    let else = found .before .before in
+    let z = else .before .before .before .before .args in
+    let buffer = z .buffer .now in
+    let good = right-size 57 buffer (else .if1 .left) in
+    let answer = dataAnswer (z .image .now) (z .index) (length (z .output .now)) in
+    let loaded = found .load-referenced-data-into .ensures .0 in
+    let both =
+    given-answer (badAnswer buffer) buffer (answer .answer) (answer .size) noItem noCounts good
+    (gave .give-number .ensures .0 ∙ ap (λ (d : DataLoaded). numberOf (d .answer)) loaded)
+    (gave .give-number .ensures .1 ∙ ap (λ (d : DataLoaded). answerBytes (carriedByte (d .answer)) (d .size) noItem noCounts) loaded) in
+    (both .0, (rw good (found .load-referenced-data-into .ensures .1), both .1))
+
+pub nvs-load-data-spec : {M : Type 1} → statement M
+nvs-load-data-spec =
+    tie.close
+    (tie.spec
+    returns
+    load-referenced-data-into-requires
+    give-number-requires
+    same-length
+    same-length-2
+    returns-2)

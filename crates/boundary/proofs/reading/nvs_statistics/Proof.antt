@@ -1,0 +1,73 @@
+-- `nvs_statistics` meets its contract: a wrong size changes nothing, else the call's answer is laid out.
+use mathlib.Core.Path.{refl, ap, ap₂, _∙_}
+use mathlib.Core.Bool.{_||_}
+use mathlib.Core.List.{List}
+use Prim.Native.Nat.{ℕ}
+use borrow.Author.Needs.{needs}
+use Rattle.sector.specs.declared.Answer.the-variants.{Done}
+use Rattle.sector.specs.declared.Statistics.{Statistics}
+use Rattle.sector.specs.Map.{statistics}
+use Rattle.encoding.specs.Encoding.{answerBytes}
+use Rattle.encoding.specs.Encoding.{noItem, noCounts, wrongSize}
+use Rattle.boundary.specs.Boundary.{badAnswer, statisticsGiven}
+use Rattle.boundary.proofs.Laws.{wrong-size, right-size, first-wrong, second-wrong, both-right, given-bad, given-answer}
+use Rattle.boundary.proofs.reading.nvs_statistics.Statement.{statement}
+use Rattle.boundary.proofs.reading.nvs_statistics.Tie as tie
+
+returns : tie.Need-returns
+unfolding statisticsGiven
+returns c =
+    let z = c .before .before .before .args in
+    let buffer = z .buffer .now in
+    let map = z .bytes .now in
+    given-bad (badAnswer buffer || wrongSize 32 map) buffer (Done) (0) (noItem) (statistics map)
+    (first-wrong (badAnswer buffer) (wrongSize 32 map) (wrong-size 57 buffer (c .if1 .taken)))
+
+returns-2 : tie.Need-returns-2
+unfolding statisticsGiven
+returns-2 c =
+    let z = c .before .before .before .before .args in
+    let buffer = z .buffer .now in
+    let map = z .bytes .now in
+    given-bad (badAnswer buffer || wrongSize 32 map) buffer (Done) (0) (noItem) (statistics map)
+    (second-wrong (badAnswer buffer) (wrongSize 32 map) (right-size 57 buffer (c .before .if1 .left)) (wrong-size 32 map (c .if2 .taken)))
+
+array-32-requires : tie.Need-array-32-requires
+array-32-requires c κs = search needs
+
+get-entry-statistics-requires : tie.Need-get-entry-statistics-requires
+get-entry-statistics-requires c κs = search needs
+
+put-answer-requires : tie.Need-put-answer-requires
+put-answer-requires c κs = search needs
+
+same-length : tie.Need-same-length
+same-length c = search needs
+
+returns-3 : tie.Need-returns-3
+unfolding statisticsGiven
+returns-3 c =
+    let put = c .before .before in
+    let counted = put .before .before in
+    let array = counted .before in
+    let else = array .before in
+    let z = else .before .before .before .before .args in
+    let buffer = z .buffer .now in
+    let map = z .bytes .now in
+    given-answer (badAnswer buffer || wrongSize 32 map) buffer (Done) (0) (noItem) (statistics map)
+    (both-right (badAnswer buffer) (wrongSize 32 map) (right-size 57 buffer (else .before .if1 .left)) (right-size 32 map (else .if2 .left)))
+    refl
+    (put .put-answer .ensures
+    ∙ ap (λ (s : Statistics). answerBytes 0 0 noItem s) (counted .get-entry-statistics .ensures ∙ ap statistics (array .array-32 .ensures)))
+
+pub nvs-statistics-spec : {M : Type 1} → statement M
+nvs-statistics-spec =
+    tie.close
+    (tie.spec
+    returns
+    returns-2
+    array-32-requires
+    get-entry-statistics-requires
+    put-answer-requires
+    same-length
+    returns-3)

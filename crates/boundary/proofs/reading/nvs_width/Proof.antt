@@ -1,0 +1,59 @@
+-- `nvs_width` meets its contract: a wrong size changes nothing, else the call's answer is laid out.
+use mathlib.Core.Path.{refl, ap, ap₂, _∙_}
+use mathlib.Core.Bool.{_||_}
+use mathlib.Core.List.{List}
+use Prim.Native.Nat.{ℕ}
+use borrow.Author.Needs.{needs}
+use Rattle.sector.specs.declared.WidthAnswer.{WidthAnswer}
+use Rattle.sector.specs.Answers.{numberOf, carriedByte}
+use Rattle.sector.specs.Types.{primitiveWidth}
+use Rattle.encoding.specs.Encoding.{answerBytes}
+use Rattle.encoding.specs.Encoding.{noItem, noCounts, wrongSize}
+use Rattle.boundary.specs.Boundary.{badAnswer, widthGiven}
+use Rattle.boundary.proofs.Laws.{wrong-size, right-size, first-wrong, second-wrong, both-right, given-bad, given-answer}
+use Rattle.boundary.proofs.reading.nvs_width.Statement.{statement}
+use Rattle.boundary.proofs.reading.nvs_width.Tie as tie
+
+returns : tie.Need-returns
+unfolding widthGiven
+returns c =
+    let z = c .before .before .args in
+    let buffer = z .buffer .now in
+    given-bad (badAnswer buffer) buffer (primitiveWidth (z .byte) .answer) (primitiveWidth (z .byte) .width) (noItem) (noCounts)
+    (wrong-size 57 buffer (c .if1 .taken))
+
+get-primitive-bytes-width-requires : tie.Need-get-primitive-bytes-width-requires
+get-primitive-bytes-width-requires c κs = search needs
+
+cast-give-number : tie.Need-cast-give-number
+cast-give-number c = search needs
+
+give-number-requires : tie.Need-give-number-requires
+give-number-requires c κs = search needs
+
+same-length : tie.Need-same-length
+same-length c = search needs
+
+returns-2 : tie.Need-returns-2
+unfolding widthGiven
+returns-2 c =
+    let gave = c .before .before in
+    let found = gave .before .before .before in
+    let else = found .before in
+    let z = else .before .before .args in
+    let buffer = z .buffer .now in
+    given-answer (badAnswer buffer) buffer (primitiveWidth (z .byte) .answer) (primitiveWidth (z .byte) .width) (noItem) (noCounts)
+    (right-size 57 buffer (else .if1 .left))
+    (gave .give-number .ensures .0 ∙ ap (λ (w : WidthAnswer). numberOf (w .answer)) (found .get-primitive-bytes-width .ensures))
+    (gave .give-number .ensures .1 ∙ ap (λ (w : WidthAnswer). answerBytes (carriedByte (w .answer)) (w .width) noItem noCounts) (found .get-primitive-bytes-width .ensures))
+
+pub nvs-width-spec : {M : Type 1} → statement M
+nvs-width-spec =
+    tie.close
+    (tie.spec
+    returns
+    get-primitive-bytes-width-requires
+    cast-give-number
+    give-number-requires
+    same-length
+    returns-2)

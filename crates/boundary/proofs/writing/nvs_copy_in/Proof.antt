@@ -1,0 +1,67 @@
+-- `nvs_copy_in` meets its contract: a wrong size changes nothing, else the call's answer is handed back with its record.
+use mathlib.Core.Path.{ap, ap₂, _∙_}
+use mathlib.Core.Bool.{_||_}
+use mathlib.Core.List.{List}
+use borrow.Author.Needs.{needs}
+use Rattle.copy.specs.Copy.{copyIn, copyInImage}
+use Rattle.page.specs.declared.ThinPage.{ThinPage}
+use Rattle.encoding.specs.Encoding.{recordOf, wrongSize}
+use Rattle.boundary.specs.Boundary.{badRecordSize, badKey, copyLeft}
+use Rattle.boundary.proofs.Laws.{wrong-size, right-size, first-wrong, second-wrong, both-right, left-bad, left-outcome}
+use Rattle.boundary.proofs.writing.nvs_copy_in.Statement.{statement}
+use Rattle.boundary.proofs.writing.nvs_copy_in.Tie as tie
+
+returns : tie.Need-returns
+unfolding copyLeft
+returns c =
+    let z = c .before .before .before .before .args in
+    let image = z .image .now in
+    let buffer = z .buffer .now in
+    let page = recordOf buffer in
+    left-bad (badRecordSize buffer) image buffer (copyIn image page (z .source .now) (z .index) (z .stop)) (copyInImage image page (z .source .now) (z .index) (z .stop))
+    (wrong-size 675 buffer (c .if1 .taken))
+
+record-of-requires : tie.Need-record-of-requires
+record-of-requires c κs = search needs
+
+copy-item-from-requires : tie.Need-copy-item-from-requires
+copy-item-from-requires c κs = search needs
+
+hand-back-requires : tie.Need-hand-back-requires
+hand-back-requires c κs = search needs
+
+same-length : tie.Need-same-length
+same-length c = search needs
+
+same-length-2 : tie.Need-same-length-2
+same-length-2 c = search needs
+
+returns-2 : tie.Need-returns-2
+unfolding copyLeft
+returns-2 c =
+    let handed = c .before .before in
+    let called = handed .before .before .before .before in
+    let read = called .before .before in
+    let else = read .before .before in
+    let z = else .before .before .before .before .args in
+    let image = z .image .now in
+    let buffer = z .buffer .now in
+    let page = recordOf buffer in
+    left-outcome (badRecordSize buffer) image buffer (copyIn image page (z .source .now) (z .index) (z .stop)) (copyInImage image page (z .source .now) (z .index) (z .stop))
+    (right-size 675 buffer (else .if1 .left))
+    (called .copy-item-from .ensures .0 ∙ ap (λ (p : ThinPage). copyIn image p (z .source .now) (z .index) (z .stop)) (read .record-of .ensures))
+    (handed .hand-back .ensures .0)
+    (called .copy-item-from .ensures .1 ∙ ap (λ (p : ThinPage). copyInImage image p (z .source .now) (z .index) (z .stop)) (read .record-of .ensures))
+    (handed .hand-back .ensures .1)
+
+pub nvs-copy-in-spec : {M : Type 1} → statement M
+nvs-copy-in-spec =
+    tie.close
+    (tie.spec
+    returns
+    record-of-requires
+    copy-item-from-requires
+    hand-back-requires
+    same-length
+    same-length-2
+    returns-2)

@@ -1,0 +1,67 @@
+-- `nvs_mark_full` meets its contract: a wrong size changes nothing, else the call's answer is handed back with its record.
+use mathlib.Core.Path.{ap, ap₂, _∙_}
+use mathlib.Core.Bool.{_||_}
+use mathlib.Core.List.{List}
+use borrow.Author.Needs.{needs}
+use Rattle.header.specs.Calls.{markFull, markFullImage}
+use Rattle.page.specs.declared.ThinPage.{ThinPage}
+use Rattle.encoding.specs.Encoding.{recordOf, wrongSize}
+use Rattle.boundary.specs.Boundary.{badRecordSize, badKey, markFullLeft}
+use Rattle.boundary.proofs.Laws.{wrong-size, right-size, first-wrong, second-wrong, both-right, left-bad, left-outcome}
+use Rattle.boundary.proofs.writing.nvs_mark_full.Statement.{statement}
+use Rattle.boundary.proofs.writing.nvs_mark_full.Tie as tie
+
+returns : tie.Need-returns
+unfolding markFullLeft
+returns c =
+    let z = c .before .before .before .args in
+    let image = z .image .now in
+    let buffer = z .buffer .now in
+    let page = recordOf buffer in
+    left-bad (badRecordSize buffer) image buffer (markFull image page) (markFullImage image page)
+    (wrong-size 675 buffer (c .if1 .taken))
+
+record-of-requires : tie.Need-record-of-requires
+record-of-requires c κs = search needs
+
+mark-as-full-requires : tie.Need-mark-as-full-requires
+mark-as-full-requires c κs = search needs
+
+hand-back-requires : tie.Need-hand-back-requires
+hand-back-requires c κs = search needs
+
+same-length : tie.Need-same-length
+same-length c = search needs
+
+same-length-2 : tie.Need-same-length-2
+same-length-2 c = search needs
+
+returns-2 : tie.Need-returns-2
+unfolding markFullLeft
+returns-2 c =
+    let handed = c .before .before in
+    let called = handed .before .before .before .before in
+    let read = called .before .before in
+    let else = read .before .before in
+    let z = else .before .before .before .args in
+    let image = z .image .now in
+    let buffer = z .buffer .now in
+    let page = recordOf buffer in
+    left-outcome (badRecordSize buffer) image buffer (markFull image page) (markFullImage image page)
+    (right-size 675 buffer (else .if1 .left))
+    (called .mark-as-full .ensures .0 ∙ ap (λ (p : ThinPage). markFull image p) (read .record-of .ensures))
+    (handed .hand-back .ensures .0)
+    (called .mark-as-full .ensures .1 ∙ ap (λ (p : ThinPage). markFullImage image p) (read .record-of .ensures))
+    (handed .hand-back .ensures .1)
+
+pub nvs-mark-full-spec : {M : Type 1} → statement M
+nvs-mark-full-spec =
+    tie.close
+    (tie.spec
+    returns
+    record-of-requires
+    mark-as-full-requires
+    hand-back-requires
+    same-length
+    same-length-2
+    returns-2)

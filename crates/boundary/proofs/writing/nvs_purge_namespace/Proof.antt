@@ -1,0 +1,67 @@
+-- `nvs_purge_namespace` meets its contract: a wrong size changes nothing, else the call's answer is handed back with its record.
+use mathlib.Core.Path.{ap, ap₂, _∙_}
+use mathlib.Core.Bool.{_||_}
+use mathlib.Core.List.{List}
+use borrow.Author.Needs.{needs}
+use Rattle.erase.specs.Purge.{purgeNamespace, purgeNamespaceImage}
+use Rattle.page.specs.declared.ThinPage.{ThinPage}
+use Rattle.encoding.specs.Encoding.{recordOf, wrongSize}
+use Rattle.boundary.specs.Boundary.{badRecordSize, badKey, purgeNamespaceLeft}
+use Rattle.boundary.proofs.Laws.{wrong-size, right-size, first-wrong, second-wrong, both-right, left-bad, left-outcome}
+use Rattle.boundary.proofs.writing.nvs_purge_namespace.Statement.{statement}
+use Rattle.boundary.proofs.writing.nvs_purge_namespace.Tie as tie
+
+returns : tie.Need-returns
+unfolding purgeNamespaceLeft
+returns c =
+    let z = c .before .before .before .args in
+    let image = z .image .now in
+    let buffer = z .buffer .now in
+    let page = recordOf buffer in
+    left-bad (badRecordSize buffer) image buffer (purgeNamespace image page (z .namespace)) (purgeNamespaceImage image page (z .namespace))
+    (wrong-size 675 buffer (c .if1 .taken))
+
+record-of-requires : tie.Need-record-of-requires
+record-of-requires c κs = search needs
+
+purge-erased-for-namespace-requires : tie.Need-purge-erased-for-namespace-requires
+purge-erased-for-namespace-requires c κs = search needs
+
+hand-back-requires : tie.Need-hand-back-requires
+hand-back-requires c κs = search needs
+
+same-length : tie.Need-same-length
+same-length c = search needs
+
+same-length-2 : tie.Need-same-length-2
+same-length-2 c = search needs
+
+returns-2 : tie.Need-returns-2
+unfolding purgeNamespaceLeft
+returns-2 c =
+    let handed = c .before .before in
+    let called = handed .before .before .before .before in
+    let read = called .before .before in
+    let else = read .before .before in
+    let z = else .before .before .before .args in
+    let image = z .image .now in
+    let buffer = z .buffer .now in
+    let page = recordOf buffer in
+    left-outcome (badRecordSize buffer) image buffer (purgeNamespace image page (z .namespace)) (purgeNamespaceImage image page (z .namespace))
+    (right-size 675 buffer (else .if1 .left))
+    (called .purge-erased-for-namespace .ensures .0 ∙ ap (λ (p : ThinPage). purgeNamespace image p (z .namespace)) (read .record-of .ensures))
+    (handed .hand-back .ensures .0)
+    (called .purge-erased-for-namespace .ensures .1 ∙ ap (λ (p : ThinPage). purgeNamespaceImage image p (z .namespace)) (read .record-of .ensures))
+    (handed .hand-back .ensures .1)
+
+pub nvs-purge-namespace-spec : {M : Type 1} → statement M
+nvs-purge-namespace-spec =
+    tie.close
+    (tie.spec
+    returns
+    record-of-requires
+    purge-erased-for-namespace-requires
+    hand-back-requires
+    same-length
+    same-length-2
+    returns-2)

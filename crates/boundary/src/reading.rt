@@ -1,0 +1,199 @@
+// C functions with an answer of 57 bytes: width, load, raw read, load data, and the calls over a map.
+ghost use mathlib.Core.Path.{_≡_};
+ghost use lib.ListN.{length};
+ghost use Rattle.sector.specs.Answers.{numberOf, carriedByte};
+ghost use Rattle.sector.specs.Map.{bitsOf};
+ghost use Rattle.encoding.specs.Encoding.{answerSize, answerBytes, noItem, noCounts};
+ghost use Rattle.boundary.specs.Boundary.{widthGiven, loadGiven, rawGiven, dataGiven, dataLeft, stateGiven, statisticsGiven, boundGiven};
+use crate::ANSWER_SIZE;
+use crate::BAD_CALL;
+use crate::ENTRIES_SIZE;
+use crate::MAP_SIZE;
+use page::write;
+use sector::Answer;
+use sector::EntryMapState;
+use sector::Statistics;
+use sector::map;
+use sector::types;
+
+// The type byte that an answer carries, 0 but for ItemTypeMismatch.
+fn carried_byte(answer: Answer) -> u8
+    ensures { λ r. ⌜ r ≡ carriedByte answer ⌝ }
+{
+    match answer {
+        Answer::Done => 0,
+        Answer::BadImage => 0,
+        Answer::BadRecord => 0,
+        Answer::WrongState => 0,
+        Answer::BadRequest => 0,
+        Answer::ValueTooLong => 0,
+        Answer::PageFull => 0,
+        Answer::KeyNotFound => 0,
+        Answer::ItemTypeMismatch(byte) => byte,
+        Answer::CorruptedData => 0,
+        Answer::NotWritten => 0,
+        Answer::Stopped => 0,
+    }
+}
+
+fn no_counts() -> Statistics
+    ensures { λ r. ⌜ r ≡ noCounts ⌝ }
+{
+    Statistics {
+        empty: 0,
+        written: 0,
+        erased: 0,
+        illegal: 0,
+    }
+}
+
+// Lays out an answer with a number, and hands back its number in document 01.
+fn give_number(buffer: &mut [u8], answer: Answer, value: u64) -> u32
+    requires { ⌜ length (now buffer) ≡ answerSize ⌝ }
+    ensures number { λ r. ⌜ r ≡ numberOf answer ⌝ }
+    ensures buffer { λ r. ⌜ now (buffer .exit) ≡ answerBytes (carriedByte answer) value noItem noCounts ⌝ }
+{
+    let none = [0u8; 32];
+    encoding::put_answer(buffer, carried_byte(answer), value, none, no_counts());
+    write::number_of(answer) as u32
+}
+
+// Lays out an answer with an item, and hands back its number in document 01.
+fn give_item(buffer: &mut [u8], answer: Answer, item: [u8; 32]) -> u32
+    requires { ⌜ length (now buffer) ≡ answerSize ⌝ }
+    ensures number { λ r. ⌜ r ≡ numberOf answer ⌝ }
+    ensures buffer { λ r. ⌜ now (buffer .exit) ≡ answerBytes (carriedByte answer) 0 item noCounts ⌝ }
+{
+    encoding::put_answer(buffer, carried_byte(answer), 0, item, no_counts());
+    write::number_of(answer) as u32
+}
+
+// A primitive's width (`get_primitive_bytes_width`).
+#[no_mangle]
+pub extern "C" fn nvs_width(byte: u8, buffer: &mut [u8]) -> u32
+    ensures number { λ r. ⌜ r ≡ widthGiven byte (now (buffer .entry)) .number ⌝ }
+    ensures buffer { λ r. ⌜ now (buffer .exit) ≡ widthGiven byte (now (buffer .entry)) .buffer ⌝ }
+{
+    if buffer.len() != ANSWER_SIZE {
+        return BAD_CALL;
+    }
+    let found = types::get_primitive_bytes_width(byte);
+    let answer = found.answer;
+    give_number(buffer, answer, found.width as u64)
+}
+
+// An item by its index (`load_item`).
+#[no_mangle]
+pub extern "C" fn nvs_load(image: &[u8], index: u64, buffer: &mut [u8]) -> u32
+    ensures number { λ r. ⌜ r ≡ loadGiven (now (image .entry)) index (now (buffer .entry)) .number ⌝ }
+    ensures buffer { λ r. ⌜ now (buffer .exit) ≡ loadGiven (now (image .entry)) index (now (buffer .entry)) .buffer ⌝ }
+{
+    if buffer.len() != ANSWER_SIZE {
+        return BAD_CALL;
+    }
+    let loaded = load::load_item(image, index as usize);
+    let answer = loaded.answer;
+    let item = loaded.item;
+    give_item(buffer, answer, item)
+}
+
+// An entry's bytes as they lie (`read_raw_entry`).
+#[no_mangle]
+pub extern "C" fn nvs_raw_read(image: &[u8], index: u64, buffer: &mut [u8]) -> u32
+    ensures number { λ r. ⌜ r ≡ rawGiven (now (image .entry)) index (now (buffer .entry)) .number ⌝ }
+    ensures buffer { λ r. ⌜ now (buffer .exit) ≡ rawGiven (now (image .entry)) index (now (buffer .entry)) .buffer ⌝ }
+{
+    if buffer.len() != ANSWER_SIZE {
+        return BAD_CALL;
+    }
+    let loaded = load::read_raw_entry(image, index as usize);
+    let answer = loaded.answer;
+    let item = loaded.item;
+    give_item(buffer, answer, item)
+}
+
+// The data behind an item's header (`load_referenced_data_into`), and its size.
+#[no_mangle]
+pub extern "C" fn nvs_load_data(
+    image: &[u8],
+    index: u64,
+    output: &mut [u8],
+    buffer: &mut [u8],
+) -> u32
+    ensures number { λ r. ⌜ r ≡ dataGiven (now (image .entry)) index (now (output .entry)) (now (buffer .entry)) .number ⌝ }
+    ensures output { λ r. ⌜ now (output .exit) ≡ dataLeft (now (image .entry)) index (now (output .entry)) (now (buffer .entry)) ⌝ }
+    ensures buffer { λ r. ⌜ now (buffer .exit) ≡ dataGiven (now (image .entry)) index (now (output .entry)) (now (buffer .entry)) .buffer ⌝ }
+{
+    if buffer.len() != ANSWER_SIZE {
+        return BAD_CALL;
+    }
+    let loaded = load::load_referenced_data_into(image, index as usize, output);
+    let answer = loaded.answer;
+    give_number(buffer, answer, loaded.size as u64)
+}
+
+fn bits_of(state: EntryMapState) -> u64
+    ensures { λ r. ⌜ r ≡ bitsOf state ⌝ }
+{
+    match state {
+        EntryMapState::Empty => 0b11,
+        EntryMapState::Written => 0b10,
+        EntryMapState::Erased => 0b00,
+        EntryMapState::Illegal => 0b01,
+    }
+}
+
+// The two bits that a map holds for an entry (`get_entry_state`).
+#[no_mangle]
+pub extern "C" fn nvs_entry_state(bytes: &[u8], index: u64, buffer: &mut [u8]) -> u32
+    ensures number { λ r. ⌜ r ≡ stateGiven (now (bytes .entry)) index (now (buffer .entry)) .number ⌝ }
+    ensures buffer { λ r. ⌜ now (buffer .exit) ≡ stateGiven (now (bytes .entry)) index (now (buffer .entry)) .buffer ⌝ }
+{
+    if buffer.len() != ANSWER_SIZE {
+        return BAD_CALL;
+    }
+    if bytes.len() != MAP_SIZE {
+        return BAD_CALL;
+    }
+    let found = map::get_entry_state(encoding::array_32(bytes), index as usize);
+    let answer = found.answer;
+    let state = found.state;
+    give_number(buffer, answer, bits_of(state))
+}
+
+// How many entries are in each state (`get_entry_statistics`).
+#[no_mangle]
+pub extern "C" fn nvs_statistics(bytes: &[u8], buffer: &mut [u8]) -> u32
+    ensures number { λ r. ⌜ r ≡ statisticsGiven (now (bytes .entry)) (now (buffer .entry)) .number ⌝ }
+    ensures buffer { λ r. ⌜ now (buffer .exit) ≡ statisticsGiven (now (bytes .entry)) (now (buffer .entry)) .buffer ⌝ }
+{
+    if buffer.len() != ANSWER_SIZE {
+        return BAD_CALL;
+    }
+    if bytes.len() != MAP_SIZE {
+        return BAD_CALL;
+    }
+    let counts = map::get_entry_statistics(encoding::array_32(bytes));
+    let none = [0u8; 32];
+    encoding::put_answer(buffer, 0, 0, none, counts);
+    0
+}
+
+// A bound on the items outside namespace 0 (`hashed_item_bound`), by the map and the 126 entries.
+#[no_mangle]
+pub extern "C" fn nvs_hash_bound(bytes: &[u8], entries: &[u8], buffer: &mut [u8]) -> u32
+    ensures number { λ r. ⌜ r ≡ boundGiven (now (bytes .entry)) (now (entries .entry)) (now (buffer .entry)) .number ⌝ }
+    ensures buffer { λ r. ⌜ now (buffer .exit) ≡ boundGiven (now (bytes .entry)) (now (entries .entry)) (now (buffer .entry)) .buffer ⌝ }
+{
+    if buffer.len() != ANSWER_SIZE {
+        return BAD_CALL;
+    }
+    if bytes.len() != MAP_SIZE {
+        return BAD_CALL;
+    }
+    if entries.len() != ENTRIES_SIZE {
+        return BAD_CALL;
+    }
+    let count = bound::hashed_item_bound(encoding::array_32(bytes), encoding::entries_of(entries));
+    give_number(buffer, Answer::Done, count as u64)
+}
