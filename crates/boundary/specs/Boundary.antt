@@ -27,7 +27,7 @@ use Rattle.erase.specs.Purge.{purgeNamespace, purgeNamespaceImage}
 use Rattle.header.specs.Calls.{initialise, initialiseImage, markFull, markFullImage}
 use Rattle.load.specs.Load.{rawEntry, loadItem, dataAnswer, dataOutput}
 use Rattle.opening.specs.Opening.{opening, openingImage}
-use Rattle.encoding.specs.Encoding.{recordSize, recordBytes, recordOf, answerSize, answerBytes, noItem, noCounts, wrongSize}
+use Rattle.encoding.specs.Encoding.{recordSize, recordBytes, recordOf, answerSize, answerBytes, zeroItem, noCounts, wrongSize}
 
 -- ---- sizes
 
@@ -72,7 +72,7 @@ badAnswer buffer = wrongSize answerSize buffer
 
 unfoldable pub widthGiven : ℕ → List ℕ → Given
 widthGiven byte buffer =
-    given (badAnswer buffer) buffer (primitiveWidth byte .answer) (primitiveWidth byte .width) noItem noCounts
+    given (badAnswer buffer) buffer (primitiveWidth byte .answer) (primitiveWidth byte .width) zeroItem noCounts
 
 unfoldable pub loadGiven : List ℕ → ℕ → List ℕ → Given
 loadGiven image i buffer =
@@ -85,7 +85,7 @@ rawGiven image i buffer =
 -- the number is the size
 unfoldable pub dataGiven : List ℕ → ℕ → List ℕ → List ℕ → Given
 dataGiven image i output buffer =
-    given (badAnswer buffer) buffer (dataAnswer image i (length output) .answer) (dataAnswer image i (length output) .size) noItem noCounts
+    given (badAnswer buffer) buffer (dataAnswer image i (length output) .answer) (dataAnswer image i (length output) .size) zeroItem noCounts
 
 unfoldable pub dataLeft : List ℕ → ℕ → List ℕ → List ℕ → List ℕ
 dataLeft image i output buffer = cond (badAnswer buffer) output (dataOutput image i output)
@@ -97,15 +97,15 @@ badMap map buffer = badAnswer buffer || wrongSize mapSize map
 -- the number is the two bits
 unfoldable pub stateGiven : List ℕ → ℕ → List ℕ → Given
 stateGiven map i buffer =
-    given (badMap map buffer) buffer (entryState map i .answer) (bitsOf (entryState map i .state)) noItem noCounts
+    given (badMap map buffer) buffer (entryState map i .answer) (bitsOf (entryState map i .state)) zeroItem noCounts
 
 unfoldable pub statisticsGiven : List ℕ → List ℕ → Given
-statisticsGiven map buffer = given (badMap map buffer) buffer Done 0 noItem (statistics map)
+statisticsGiven map buffer = given (badMap map buffer) buffer Done 0 zeroItem (statistics map)
 
 unfoldable pub boundGiven : List ℕ → List ℕ → List ℕ → Given
 boundGiven map entries buffer =
     given (badMap map buffer || wrongSize entriesSize entries) buffer
-    Done (hashBound map (chunks entriesPerPage entries)) noItem noCounts
+    Done (hashBound map (chunks entriesPerPage entries)) zeroItem noCounts
 
 -- ---- a writing call
 

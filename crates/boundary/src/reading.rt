@@ -3,7 +3,7 @@ ghost use mathlib.Core.Path.{_≡_};
 ghost use lib.ListN.{length};
 ghost use Rattle.sector.specs.Answers.{numberOf, carriedByte};
 ghost use Rattle.sector.specs.Map.{bitsOf};
-ghost use Rattle.encoding.specs.Encoding.{answerSize, answerBytes, noItem, noCounts};
+ghost use Rattle.encoding.specs.Encoding.{answerSize, answerBytes, zeroItem, noCounts};
 ghost use Rattle.boundary.specs.Boundary.{widthGiven, loadGiven, rawGiven, dataGiven, dataLeft, stateGiven, statisticsGiven, boundGiven};
 use crate::ANSWER_SIZE;
 use crate::BAD_CALL;
@@ -51,7 +51,7 @@ fn no_counts() -> Statistics
 fn give_number(buffer: &mut [u8], answer: Answer, value: u64) -> u32
     requires { ⌜ length (now buffer) ≡ answerSize ⌝ }
     ensures number { λ r. ⌜ r ≡ numberOf answer ⌝ }
-    ensures buffer { λ r. ⌜ now (buffer .exit) ≡ answerBytes (carriedByte answer) value noItem noCounts ⌝ }
+    ensures buffer { λ r. ⌜ now (buffer .exit) ≡ answerBytes (carriedByte answer) value zeroItem noCounts ⌝ }
 {
     let none = [0u8; 32];
     encoding::put_answer(buffer, carried_byte(answer), value, none, no_counts());

@@ -3,7 +3,7 @@ use mathlib.Core.Path.{ap₂, _∙_}
 use Prim.Native.Nat.{ℕ}
 use borrow.Author.Needs.{needs}
 use Rattle.sector.specs.declared.Statistics.{Statistics}
-use Rattle.encoding.specs.Encoding.{answerBytes, noItem}
+use Rattle.encoding.specs.Encoding.{answerBytes, zeroItem}
 use Rattle.boundary.proofs.reading.give_number.Statement.{statement}
 use Rattle.boundary.proofs.reading.give_number.Tie as tie
 
@@ -33,7 +33,7 @@ returns c =
     let z = byte .before .before .before .args in (
       c .number-of .ensures,
       put .put-answer .ensures
-          ∙ ap₂ (λ (b : ℕ) (s : Statistics). answerBytes b (z .value) noItem s) (byte .carried-byte .ensures) (counts .no-counts .ensures),
+          ∙ ap₂ (λ (b : ℕ) (s : Statistics). answerBytes b (z .value) zeroItem s) (byte .carried-byte .ensures) (counts .no-counts .ensures),
     )
 
 pub give-number-spec : {M : Type 1} → statement M

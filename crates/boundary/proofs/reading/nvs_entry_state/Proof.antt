@@ -8,7 +8,7 @@ use Rattle.sector.specs.declared.StateAnswer.{StateAnswer}
 use Rattle.sector.specs.Answers.{numberOf, carriedByte}
 use Rattle.sector.specs.Map.{bitsOf, entryState}
 use Rattle.encoding.specs.Encoding.{answerBytes}
-use Rattle.encoding.specs.Encoding.{noItem, noCounts, wrongSize}
+use Rattle.encoding.specs.Encoding.{zeroItem, noCounts, wrongSize}
 use Rattle.boundary.specs.Boundary.{badAnswer, stateGiven}
 use Rattle.boundary.proofs.Laws.{wrong-size, right-size, first-wrong, second-wrong, both-right, given-bad, given-answer}
 use Rattle.boundary.proofs.reading.nvs_entry_state.Statement.{statement}
@@ -20,7 +20,7 @@ returns c =
     let z = c .before .before .before .args in
     let buffer = z .buffer .now in
     let map = z .bytes .now in
-    given-bad (badAnswer buffer || wrongSize 32 map) buffer (entryState map (z .index) .answer) (bitsOf (entryState map (z .index) .state)) (noItem) (noCounts)
+    given-bad (badAnswer buffer || wrongSize 32 map) buffer (entryState map (z .index) .answer) (bitsOf (entryState map (z .index) .state)) (zeroItem) (noCounts)
     (first-wrong (badAnswer buffer) (wrongSize 32 map) (wrong-size 57 buffer (c .if1 .taken)))
 
 returns-2 : tie.Need-returns-2
@@ -29,7 +29,7 @@ returns-2 c =
     let z = c .before .before .before .before .args in
     let buffer = z .buffer .now in
     let map = z .bytes .now in
-    given-bad (badAnswer buffer || wrongSize 32 map) buffer (entryState map (z .index) .answer) (bitsOf (entryState map (z .index) .state)) (noItem) (noCounts)
+    given-bad (badAnswer buffer || wrongSize 32 map) buffer (entryState map (z .index) .answer) (bitsOf (entryState map (z .index) .state)) (zeroItem) (noCounts)
     (second-wrong (badAnswer buffer) (wrongSize 32 map) (right-size 57 buffer (c .before .if1 .left)) (wrong-size 32 map (c .if2 .taken)))
 
 array-32-requires : tie.Need-array-32-requires
@@ -59,12 +59,12 @@ returns-3 c =
     let z = else .before .before .before .before .args in
     let buffer = z .buffer .now in
     let map = z .bytes .now in
-    given-answer (badAnswer buffer || wrongSize 32 map) buffer (entryState map (z .index) .answer) (bitsOf (entryState map (z .index) .state)) (noItem) (noCounts)
+    given-answer (badAnswer buffer || wrongSize 32 map) buffer (entryState map (z .index) .answer) (bitsOf (entryState map (z .index) .state)) (zeroItem) (noCounts)
     (both-right (badAnswer buffer) (wrongSize 32 map) (right-size 57 buffer (else .before .if1 .left)) (right-size 32 map (else .if2 .left)))
     (gave .give-number .ensures .0 ∙ ap (λ (s : StateAnswer). numberOf (s .answer)) state)
     (gave .give-number .ensures .1
-    ∙ ap (λ (value : ℕ). answerBytes (carriedByte (found .get-entry-state .result .answer)) value noItem noCounts) (bits .bits-of .ensures)
-    ∙ ap (λ (s : StateAnswer). answerBytes (carriedByte (s .answer)) (bitsOf (s .state)) noItem noCounts) state)
+    ∙ ap (λ (value : ℕ). answerBytes (carriedByte (found .get-entry-state .result .answer)) value zeroItem noCounts) (bits .bits-of .ensures)
+    ∙ ap (λ (s : StateAnswer). answerBytes (carriedByte (s .answer)) (bitsOf (s .state)) zeroItem noCounts) state)
 
 pub nvs-entry-state-spec : {M : Type 1} → statement M
 nvs-entry-state-spec =

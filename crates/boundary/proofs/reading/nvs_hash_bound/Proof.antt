@@ -8,7 +8,7 @@ use Rattle.sector.specs.declared.Answer.the-variants.{Done}
 use Rattle.sector.specs.Layout.{chunks}
 use Rattle.bound.specs.Bound.{hashBound}
 use Rattle.encoding.specs.Encoding.{answerBytes}
-use Rattle.encoding.specs.Encoding.{noItem, noCounts, wrongSize}
+use Rattle.encoding.specs.Encoding.{zeroItem, noCounts, wrongSize}
 use Rattle.boundary.specs.Boundary.{badAnswer, boundGiven}
 use Rattle.boundary.proofs.Laws.{wrong-size, right-size, first-wrong, second-wrong, both-right, given-bad, given-answer}
 use Rattle.boundary.proofs.reading.nvs_hash_bound.Statement.{statement}
@@ -21,7 +21,7 @@ returns c =
     let buffer = z .buffer .now in
     let map = z .bytes .now in
     let entries = z .entries .now in
-    given-bad ((badAnswer buffer || wrongSize 32 map) || wrongSize 4032 entries) buffer (Done) (hashBound map (chunks 126 entries)) (noItem) (noCounts)
+    given-bad ((badAnswer buffer || wrongSize 32 map) || wrongSize 4032 entries) buffer (Done) (hashBound map (chunks 126 entries)) (zeroItem) (noCounts)
     (first-wrong (badAnswer buffer || wrongSize 32 map) (wrongSize 4032 entries) (first-wrong (badAnswer buffer) (wrongSize 32 map) (wrong-size 57 buffer (c .if1 .taken))))
 
 returns-2 : tie.Need-returns-2
@@ -31,7 +31,7 @@ returns-2 c =
     let buffer = z .buffer .now in
     let map = z .bytes .now in
     let entries = z .entries .now in
-    given-bad ((badAnswer buffer || wrongSize 32 map) || wrongSize 4032 entries) buffer (Done) (hashBound map (chunks 126 entries)) (noItem) (noCounts)
+    given-bad ((badAnswer buffer || wrongSize 32 map) || wrongSize 4032 entries) buffer (Done) (hashBound map (chunks 126 entries)) (zeroItem) (noCounts)
     (first-wrong (badAnswer buffer || wrongSize 32 map) (wrongSize 4032 entries) (second-wrong (badAnswer buffer) (wrongSize 32 map) (right-size 57 buffer (c .before .if1 .left)) (wrong-size 32 map (c .if2 .taken))))
 
 returns-3 : tie.Need-returns-3
@@ -41,7 +41,7 @@ returns-3 c =
     let buffer = z .buffer .now in
     let map = z .bytes .now in
     let entries = z .entries .now in
-    given-bad ((badAnswer buffer || wrongSize 32 map) || wrongSize 4032 entries) buffer (Done) (hashBound map (chunks 126 entries)) (noItem) (noCounts)
+    given-bad ((badAnswer buffer || wrongSize 32 map) || wrongSize 4032 entries) buffer (Done) (hashBound map (chunks 126 entries)) (zeroItem) (noCounts)
     (second-wrong (badAnswer buffer || wrongSize 32 map) (wrongSize 4032 entries) (both-right (badAnswer buffer) (wrongSize 32 map) (right-size 57 buffer (c .before .before .if1 .left)) (right-size 32 map (c .before .if2 .left))) (wrong-size 4032 entries (c .if3 .taken)))
 
 array-32-requires : tie.Need-array-32-requires
@@ -71,11 +71,11 @@ returns-4 c =
     let buffer = z .buffer .now in
     let map = z .bytes .now in
     let entries = z .entries .now in
-    given-answer ((badAnswer buffer || wrongSize 32 map) || wrongSize 4032 entries) buffer (Done) (hashBound map (chunks 126 entries)) (noItem) (noCounts)
+    given-answer ((badAnswer buffer || wrongSize 32 map) || wrongSize 4032 entries) buffer (Done) (hashBound map (chunks 126 entries)) (zeroItem) (noCounts)
     (both-right (badAnswer buffer || wrongSize 32 map) (wrongSize 4032 entries) (both-right (badAnswer buffer) (wrongSize 32 map) (right-size 57 buffer (else .before .before .if1 .left)) (right-size 32 map (else .before .if2 .left))) (right-size 4032 entries (else .if3 .left)))
     (gave .give-number .ensures .0)
     (gave .give-number .ensures .1
-    ∙ ap (λ (value : ℕ). answerBytes 0 value noItem noCounts)
+    ∙ ap (λ (value : ℕ). answerBytes 0 value zeroItem noCounts)
     (bound .hashed-item-bound .ensures ∙ ap₂ hashBound (array .array-32 .ensures) (cut .entries-of .ensures)))
 
 pub nvs-hash-bound-spec : {M : Type 1} → statement M

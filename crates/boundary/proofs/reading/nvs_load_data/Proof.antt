@@ -6,7 +6,7 @@ use borrow.Author.Needs.{needs}
 use Rattle.load.specs.declared.DataLoaded.{DataLoaded}
 use Rattle.load.specs.Load.{dataAnswer, dataOutput}
 use Rattle.sector.specs.Answers.{numberOf, carriedByte}
-use Rattle.encoding.specs.Encoding.{answerBytes, noItem, noCounts}
+use Rattle.encoding.specs.Encoding.{answerBytes, zeroItem, noCounts}
 use Rattle.boundary.specs.Boundary.{badAnswer, dataGiven, dataLeft}
 use Rattle.boundary.proofs.Laws.{wrong-size, right-size, given-bad, given-answer}
 use Rattle.boundary.proofs.reading.nvs_load_data.Statement.{statement}
@@ -19,7 +19,7 @@ returns c =
     let buffer = z .buffer .now in
     let bad = wrong-size 57 buffer (c .if1 .taken) in
     let answer = dataAnswer (z .image .now) (z .index) (length (z .output .now)) in
-    let both = given-bad (badAnswer buffer) buffer (answer .answer) (answer .size) noItem noCounts bad in
+    let both = given-bad (badAnswer buffer) buffer (answer .answer) (answer .size) zeroItem noCounts bad in
     (both .0, (rw bad, both .1))
 
 load-referenced-data-into-requires : tie.Need-load-referenced-data-into-requires
@@ -46,9 +46,9 @@ returns-2 c =
     let answer = dataAnswer (z .image .now) (z .index) (length (z .output .now)) in
     let loaded = found .load-referenced-data-into .ensures .0 in
     let both =
-    given-answer (badAnswer buffer) buffer (answer .answer) (answer .size) noItem noCounts good
+    given-answer (badAnswer buffer) buffer (answer .answer) (answer .size) zeroItem noCounts good
     (gave .give-number .ensures .0 ∙ ap (λ (d : DataLoaded). numberOf (d .answer)) loaded)
-    (gave .give-number .ensures .1 ∙ ap (λ (d : DataLoaded). answerBytes (carriedByte (d .answer)) (d .size) noItem noCounts) loaded) in
+    (gave .give-number .ensures .1 ∙ ap (λ (d : DataLoaded). answerBytes (carriedByte (d .answer)) (d .size) zeroItem noCounts) loaded) in
     (both .0, (rw good (found .load-referenced-data-into .ensures .1), both .1))
 
 pub nvs-load-data-spec : {M : Type 1} → statement M

@@ -8,7 +8,7 @@ use Rattle.sector.specs.declared.Answer.the-variants.{Done}
 use Rattle.sector.specs.declared.Statistics.{Statistics}
 use Rattle.sector.specs.Map.{statistics}
 use Rattle.encoding.specs.Encoding.{answerBytes}
-use Rattle.encoding.specs.Encoding.{noItem, noCounts, wrongSize}
+use Rattle.encoding.specs.Encoding.{zeroItem, noCounts, wrongSize}
 use Rattle.boundary.specs.Boundary.{badAnswer, statisticsGiven}
 use Rattle.boundary.proofs.Laws.{wrong-size, right-size, first-wrong, second-wrong, both-right, given-bad, given-answer}
 use Rattle.boundary.proofs.reading.nvs_statistics.Statement.{statement}
@@ -20,7 +20,7 @@ returns c =
     let z = c .before .before .before .args in
     let buffer = z .buffer .now in
     let map = z .bytes .now in
-    given-bad (badAnswer buffer || wrongSize 32 map) buffer (Done) (0) (noItem) (statistics map)
+    given-bad (badAnswer buffer || wrongSize 32 map) buffer (Done) (0) (zeroItem) (statistics map)
     (first-wrong (badAnswer buffer) (wrongSize 32 map) (wrong-size 57 buffer (c .if1 .taken)))
 
 returns-2 : tie.Need-returns-2
@@ -29,7 +29,7 @@ returns-2 c =
     let z = c .before .before .before .before .args in
     let buffer = z .buffer .now in
     let map = z .bytes .now in
-    given-bad (badAnswer buffer || wrongSize 32 map) buffer (Done) (0) (noItem) (statistics map)
+    given-bad (badAnswer buffer || wrongSize 32 map) buffer (Done) (0) (zeroItem) (statistics map)
     (second-wrong (badAnswer buffer) (wrongSize 32 map) (right-size 57 buffer (c .before .if1 .left)) (wrong-size 32 map (c .if2 .taken)))
 
 array-32-requires : tie.Need-array-32-requires
@@ -54,11 +54,11 @@ returns-3 c =
     let z = else .before .before .before .before .args in
     let buffer = z .buffer .now in
     let map = z .bytes .now in
-    given-answer (badAnswer buffer || wrongSize 32 map) buffer (Done) (0) (noItem) (statistics map)
+    given-answer (badAnswer buffer || wrongSize 32 map) buffer (Done) (0) (zeroItem) (statistics map)
     (both-right (badAnswer buffer) (wrongSize 32 map) (right-size 57 buffer (else .before .if1 .left)) (right-size 32 map (else .if2 .left)))
     refl
     (put .put-answer .ensures
-    ∙ ap (λ (s : Statistics). answerBytes 0 0 noItem s) (counted .get-entry-statistics .ensures ∙ ap statistics (array .array-32 .ensures)))
+    ∙ ap (λ (s : Statistics). answerBytes 0 0 zeroItem s) (counted .get-entry-statistics .ensures ∙ ap statistics (array .array-32 .ensures)))
 
 pub nvs-statistics-spec : {M : Type 1} → statement M
 nvs-statistics-spec =

@@ -8,7 +8,7 @@ use Rattle.sector.specs.declared.WidthAnswer.{WidthAnswer}
 use Rattle.sector.specs.Answers.{numberOf, carriedByte}
 use Rattle.sector.specs.Types.{primitiveWidth}
 use Rattle.encoding.specs.Encoding.{answerBytes}
-use Rattle.encoding.specs.Encoding.{noItem, noCounts, wrongSize}
+use Rattle.encoding.specs.Encoding.{zeroItem, noCounts, wrongSize}
 use Rattle.boundary.specs.Boundary.{badAnswer, widthGiven}
 use Rattle.boundary.proofs.Laws.{wrong-size, right-size, first-wrong, second-wrong, both-right, given-bad, given-answer}
 use Rattle.boundary.proofs.reading.nvs_width.Statement.{statement}
@@ -19,7 +19,7 @@ unfolding widthGiven
 returns c =
     let z = c .before .before .args in
     let buffer = z .buffer .now in
-    given-bad (badAnswer buffer) buffer (primitiveWidth (z .byte) .answer) (primitiveWidth (z .byte) .width) (noItem) (noCounts)
+    given-bad (badAnswer buffer) buffer (primitiveWidth (z .byte) .answer) (primitiveWidth (z .byte) .width) (zeroItem) (noCounts)
     (wrong-size 57 buffer (c .if1 .taken))
 
 get-primitive-bytes-width-requires : tie.Need-get-primitive-bytes-width-requires
@@ -42,10 +42,10 @@ returns-2 c =
     let else = found .before in
     let z = else .before .before .args in
     let buffer = z .buffer .now in
-    given-answer (badAnswer buffer) buffer (primitiveWidth (z .byte) .answer) (primitiveWidth (z .byte) .width) (noItem) (noCounts)
+    given-answer (badAnswer buffer) buffer (primitiveWidth (z .byte) .answer) (primitiveWidth (z .byte) .width) (zeroItem) (noCounts)
     (right-size 57 buffer (else .if1 .left))
     (gave .give-number .ensures .0 ∙ ap (λ (w : WidthAnswer). numberOf (w .answer)) (found .get-primitive-bytes-width .ensures))
-    (gave .give-number .ensures .1 ∙ ap (λ (w : WidthAnswer). answerBytes (carriedByte (w .answer)) (w .width) noItem noCounts) (found .get-primitive-bytes-width .ensures))
+    (gave .give-number .ensures .1 ∙ ap (λ (w : WidthAnswer). answerBytes (carriedByte (w .answer)) (w .width) zeroItem noCounts) (found .get-primitive-bytes-width .ensures))
 
 pub nvs-width-spec : {M : Type 1} → statement M
 nvs-width-spec =
