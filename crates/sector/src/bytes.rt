@@ -40,7 +40,7 @@ pub fn number_at(bytes: &[u8], offset: usize) -> u32
 }
 
 // Lays bytes over what stands at an offset (`copy_from_slice`).
-pub(crate) fn put(out: &mut [u8], offset: usize, bytes: &[u8])
+pub fn put(out: &mut [u8], offset: usize, bytes: &[u8])
     requires { ⌜ offset + length (now bytes) ≤ length (now out) ⌝ }
     ensures { λ _. ⌜ now (out .exit) ≡ take offset (now (out .entry)) ++ (now (bytes .entry) ++ drop (offset + length (now (bytes .entry))) (now (out .entry))) ⌝ }
 {
