@@ -1,8 +1,12 @@
 // The entry map: two bits an entry, entry i at bit 2 * (i mod 4) of map byte i / 4.
 ghost use mathlib.Core.Path.{_≡_};
+ghost use mathlib.Core.Bool.{cond};
+ghost use mathlib.Core.List.{[], _∷_};
 ghost use Prim.Native.Nat.{_+_, _/_, _%_, _^_, _<_, _≤_};
+ghost use lib.Dec.{eqb};
 ghost use Rattle.sector.specs.declared.EntryMapState.the-variants.{Written};
-ghost use Rattle.sector.specs.Map.{bitsOf, stateOfBits, sameState, stateAt, entryState, statistics, markMask, markRange};
+ghost use Rattle.sector.specs.Map.{bitsOf, stateOfBits, sameState, stateAt, unpack, entryState, statistics, markMask, markRange};
+ghost use Rattle.map.specs.Counting.{inAll, counted};
 use sector::Answer;
 use sector::ENTRIES_PER_PAGE;
 use sector::EntryMapState;
@@ -73,29 +77,55 @@ pub fn get_entry_state(map: [u8; 32], index: usize) -> StateAnswer
     }
 }
 
+// One where the two bits are those.
+fn one_if(bits: u8, those: u8) -> u32
+    ensures { λ r. ⌜ (r ≡ cond (eqb those bits) 1 0) × (r ≤ 1) ⌝ }
+{
+    if bits == those { 1 } else { 0 }
+}
+
+// The counts with one more entry, by its two bits.
+fn with_entry(counts: Statistics, bits: u8) -> Statistics
+    requires { ⌜ (bits < 4) × (inAll counts < 126) ⌝ }
+    ensures { λ r. ⌜ r ≡ counted counts (stateOfBits bits ∷ []) ⌝ }
+{
+    Statistics {
+        empty: counts.empty + one_if(bits, 0b11),
+        written: counts.written + one_if(bits, 0b10),
+        erased: counts.erased + one_if(bits, 0b00),
+        illegal: counts.illegal + one_if(bits, 0b01),
+    }
+}
+
+// The counts with the four entries of a map byte.
+fn with_byte(counts: Statistics, byte: u8) -> Statistics
+    requires { ⌜ inAll counts ≤ 122 ⌝ }
+    ensures { λ r. ⌜ r ≡ counted counts (unpack (byte ∷ [])) ⌝ }
+{
+    let one = with_entry(counts, byte % 4);
+    let two = with_entry(one, byte / 4 % 4);
+    let three = with_entry(two, byte / 16 % 4);
+    with_entry(three, byte / 64 % 4)
+}
+
 // How many entries of the page are in each state (`ThinPage::get_entry_statistics`): the four counts add up to
 // 126, by the law `statistics-sum`.
+//
+// A byte at a time, and no branch in it, so that the loop runs over many bytes at once. The last byte has two entries.
 pub fn get_entry_statistics(map: [u8; 32]) -> Statistics
     ensures { λ r. ⌜ r ≡ statistics map ⌝ }
 {
-    let mut empty: u32 = 0;
-    let mut written: u32 = 0;
-    let mut erased: u32 = 0;
-    let mut illegal: u32 = 0;
-    for index in 0..ENTRIES_PER_PAGE {
-        match state_of_pair(map[index / 4], index % 4) {
-            EntryMapState::Empty => empty += 1,
-            EntryMapState::Written => written += 1,
-            EntryMapState::Erased => erased += 1,
-            EntryMapState::Illegal => illegal += 1,
-        }
+    let mut counts = Statistics {
+        empty: 0,
+        written: 0,
+        erased: 0,
+        illegal: 0,
+    };
+    for i in 0..31usize {
+        counts = with_byte(counts, map[i]);
     }
-    Statistics {
-        empty,
-        written,
-        erased,
-        illegal,
-    }
+    let last = map[31];
+    with_entry(with_entry(counts, last % 4), last / 4 % 4)
 }
 
 // A byte of ones but for a state's bits at one of its four pairs.
