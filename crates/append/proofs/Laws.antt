@@ -5,7 +5,7 @@ use mathlib.Core.Bool.{true, cond}
 use mathlib.Core.List.{List, [], _∷_, _++_}
 use Prim.Native.Nat.{ℕ, _+_, _≤_}
 use native.Mathlib.Omega.{arith}
-use lib.Dec.{eqb, ltb}
+use lib.Dec.{eqb}
 use lib.ListN.{length, length-append}
 use Rattle.flash.specs.Flash.{units}
 use Rattle.flash.proofs.Laws.{length-units-whole}
@@ -14,7 +14,7 @@ use Rattle.page.specs.Record.{nextFree, fitToUse}
 use Rattle.page.specs.Writing.{badImage, badRecord, notActive, overFree, fullUnits, itemPlan}
 use Rattle.page.proofs.Checks.{accepted-tail, accepted-room, accepted-usable}
 use Rattle.page.proofs.Plans.{length-map-units, length-full-units}
-use Rattle.sector.specs.declared.Answer.the-variants.{BadRequest, ValueTooLong}
+use Rattle.sector.specs.declared.Answer.the-variants.{BadRequest}
 use Rattle.sector.specs.declared.EntryMapState.the-variants.{Written}
 use Rattle.sector.specs.Answers.{Check, accepted}
 use Rattle.sector.specs.Item.{itemBytes}
@@ -22,8 +22,7 @@ use Rattle.sector.specs.Layout.{sectorSize, entriesPerPage, entryAddress}
 use Rattle.sector.specs.Map.{markRange, mapUnits}
 use Rattle.sector.proofs.Laws.{length-markRange}
 use Rattle.append.specs.declared.Single.{Single}
-use Rattle.append.specs.declared.Variable.{Variable}
-use Rattle.append.specs.Append.{singleRequest, singleChecks, singleBytes, singlePlan, spanFor, variableRequest, variableChecks}
+use Rattle.append.specs.Append.{singleRequest, singleChecks, singleBytes, singlePlan}
 
 -- ---- checks
 
@@ -42,16 +41,6 @@ single-room image page item h =
     let usable = accepted-usable image page (notActive page .0) (singleRequest item ∷ overFree page 1 ∷ []) h in
     let behind-request = accepted-tail (singleRequest item .0) BadRequest (overFree page 1 ∷ []) (usable .rest) in
     record { whole = usable .whole; fit = usable .fit; room = accepted-room page 1 (omega arith) behind-request }
-
-pub variable-room : (image : List ℕ) (page : ThinPage) (item : Variable) (payload : List ℕ)
-    → accepted (variableChecks image page item payload) ≡ true → Room image page (spanFor (length payload))
-variable-room image page item payload h =
-    let span = spanFor (length payload) in
-    let too-long = ltb entriesPerPage span in
-    let usable = accepted-usable image page (notActive page .0) (variableRequest item ∷ (too-long, ValueTooLong) ∷ overFree page span ∷ []) h in
-    let behind-request = accepted-tail (variableRequest item .0) BadRequest ((too-long, ValueTooLong) ∷ overFree page span ∷ []) (usable .rest) in
-    let behind-length = accepted-tail too-long ValueTooLong (overFree page span ∷ []) behind-request in
-    record { whole = usable .whole; fit = usable .fit; room = accepted-room page span (omega arith) behind-length }
 
 -- ---- units
 

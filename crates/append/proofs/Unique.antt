@@ -7,14 +7,9 @@ use Rattle.append.proofs.write_item.Kinds as write-item-kinds
 use Rattle.append.proofs.write_item.Reads as write-item
 use Rattle.append.proofs.write_namespace.Kinds as write-namespace-kinds
 use Rattle.append.proofs.write_namespace.Reads as write-namespace
-use Rattle.append.proofs.write_variable_sized_item.Kinds as write-variable-sized-item-kinds
-use Rattle.append.proofs.write_variable_sized_item.Reads as write-variable-sized-item
 
 pub write-item-unique : OneOutcome 1 write-item-kinds.ps write-item-kinds.r (λ κs ex. now (ex .0)) write-item.Learnt
 write-item-unique κs args x y ex ey p q = (unique (p .0) (q .0), unique (p .1) (q .1))
 
 pub write-namespace-unique : OneOutcome 1 write-namespace-kinds.ps write-namespace-kinds.r (λ κs ex. now (ex .0)) write-namespace.Learnt
 write-namespace-unique κs args x y ex ey p q = (unique (p .0) (q .0), unique (p .1) (q .1))
-
-pub write-variable-sized-item-unique : OneOutcome 2 write-variable-sized-item-kinds.ps write-variable-sized-item-kinds.r (λ κs ex. now (ex .0)) write-variable-sized-item.Learnt
-write-variable-sized-item-unique κs args x y ex ey p q = (unique (p .0) (q .0), unique (p .1) (q .1))

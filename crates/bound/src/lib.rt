@@ -1,25 +1,11 @@
 // How many items outside namespace 0 a page can hold (page.rs, hashed_item_bound).
 use sector::ENTRIES_PER_PAGE;
-use sector::EntryMapState;
-use sector::map;
 ghost use mathlib.Core.Path.{_≡_};
 ghost use mathlib.Core.List.{List};
 ghost use Prim.Native.Nat.{ℕ, _≤_};
 ghost use lib.ListN.{length, drop};
-ghost use Rattle.sector.specs.declared.EntryMapState.the-variants.{Written};
-ghost use Rattle.sector.specs.Map.{statesOf, sameState};
+ghost use Rattle.sector.specs.Map.{statesOf};
 ghost use Rattle.bound.specs.Bound.{passedBehind, counted, boundFrom, hashBound};
-
-fn is_written(state: EntryMapState) -> bool
-    ensures { λ r. ⌜ r ≡ sameState Written state ⌝ }
-{
-    match state {
-        EntryMapState::Empty => false,
-        EntryMapState::Written => true,
-        EntryMapState::Erased => false,
-        EntryMapState::Illegal => false,
-    }
-}
 
 // One if the namespace is not 0.
 fn count_of(entry: [u8; 32]) -> usize
@@ -54,7 +40,7 @@ fn bound_from(map: [u8; 32], entries: [[u8; 32]; 126], index: usize) -> usize
     if index >= ENTRIES_PER_PAGE {
         return 0;
     }
-    if !is_written(map::state_at(map, index)) {
+    if !map::is_written(map::state_at(map, index)) {
         return bound_from(map, entries, index + 1);
     }
     let entry = entries[index];

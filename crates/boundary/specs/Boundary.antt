@@ -23,9 +23,10 @@ use Rattle.append.specs.Append.{namespaceItem, appendSingle, appendSingleImage,
 use Rattle.bound.specs.Bound.{hashBound}
 use Rattle.copy.specs.Copy.{copyIn, copyInImage}
 use Rattle.erase.specs.Erase.{erase, eraseImage}
-use Rattle.erase.specs.Purge.{purgeNamespace, purgeNamespaceImage}
+use Rattle.purge.specs.Purge.{purgeNamespace, purgeNamespaceImage}
 use Rattle.header.specs.Calls.{initialise, initialiseImage, markFull, markFullImage}
-use Rattle.load.specs.Load.{rawEntry, loadItem, dataAnswer, dataOutput}
+use Rattle.load.specs.Load.{rawEntry, loadItem}
+use Rattle.payload.specs.Payload.{dataAnswer, dataOutput}
 use Rattle.opening.specs.Opening.{opening, openingImage}
 use Rattle.encoding.specs.Encoding.{recordSize, recordBytes, recordOf, answerSize, answerBytes, zeroItem, noCounts, wrongSize}
 

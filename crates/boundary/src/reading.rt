@@ -9,12 +9,10 @@ use crate::ANSWER_SIZE;
 use crate::BAD_CALL;
 use crate::ENTRIES_SIZE;
 use crate::MAP_SIZE;
-use page::write;
 use sector::Answer;
 use sector::EntryMapState;
 use sector::Statistics;
-use sector::map;
-use sector::types;
+use sector::answers;
 
 // The type byte that an answer carries, 0 but for ItemTypeMismatch.
 fn carried_byte(answer: Answer) -> u8
@@ -55,7 +53,7 @@ fn give_number(buffer: &mut [u8], answer: Answer, value: u64) -> u32
 {
     let none = [0u8; 32];
     encoding::put_answer(buffer, carried_byte(answer), value, none, no_counts());
-    write::number_of(answer) as u32
+    answers::number_of(answer) as u32
 }
 
 // Lays out an answer with an item, and hands back its number in document 01.
@@ -65,7 +63,7 @@ fn give_item(buffer: &mut [u8], answer: Answer, item: [u8; 32]) -> u32
     ensures buffer { λ r. ⌜ now (buffer .exit) ≡ answerBytes (carriedByte answer) 0 item noCounts ⌝ }
 {
     encoding::put_answer(buffer, carried_byte(answer), 0, item, no_counts());
-    write::number_of(answer) as u32
+    answers::number_of(answer) as u32
 }
 
 // A primitive's width (`get_primitive_bytes_width`).
@@ -127,7 +125,7 @@ pub extern "C" fn nvs_load_data(
     if buffer.len() != ANSWER_SIZE {
         return BAD_CALL;
     }
-    let loaded = load::load_referenced_data_into(image, index as usize, output);
+    let loaded = payload::load_referenced_data_into(image, index as usize, output);
     let answer = loaded.answer;
     give_number(buffer, answer, loaded.size as u64)
 }

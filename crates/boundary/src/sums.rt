@@ -9,8 +9,6 @@ ghost use Rattle.encoding.specs.Encoding.{wrongSize};
 ghost use Rattle.boundary.specs.Boundary.{keySize, itemSize};
 use crate::ITEM_SIZE;
 use crate::KEY_SIZE;
-use sector::item;
-use sector::types;
 
 // The CRC of the data from a start value.
 #[no_mangle]
@@ -39,7 +37,7 @@ pub extern "C" fn nvs_header_crc(bytes: &[u8]) -> u32
     if bytes.len() != ITEM_SIZE {
         return 0;
     }
-    sector::header::header_crc(encoding::array_32(bytes))
+    page_header::header_crc(encoding::array_32(bytes))
 }
 
 // The 24-bit hash of namespace, key and chunk; 0 where the key is not 16 bytes.
@@ -50,7 +48,7 @@ pub extern "C" fn nvs_hash(namespace: u8, key: &[u8], chunk: u8) -> u32
     if key.len() != KEY_SIZE {
         return 0;
     }
-    item::calculate_hash(namespace, encoding::array_16(key), chunk)
+    hash::calculate_hash(namespace, encoding::array_16(key), chunk)
 }
 
 // The byte, or 0xFF where it is none of the thirteen types.

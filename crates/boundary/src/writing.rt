@@ -4,7 +4,7 @@
 ghost use mathlib.Core.Path.{_≡_};
 ghost use lib.ListN.{length};
 ghost use Rattle.sector.specs.Answers.{numberOf};
-ghost use Rattle.erase.specs.Purge.{purge, purgeImage};
+ghost use Rattle.purge.specs.Purge.{purge, purgeImage};
 ghost use Rattle.encoding.specs.Encoding.{recordSize};
 ghost use Rattle.boundary.specs.Boundary.{recordLeft, openLeft, initialiseLeft, markFullLeft, singleLeft, namespaceLeft, variableLeft, copyLeft, eraseLeft, purgeNamespaceLeft, singleOf, variableOf};
 use crate::BAD_CALL;
@@ -14,7 +14,7 @@ use crate::SINGLE_SIZE;
 use append::Single;
 use append::Variable;
 use page::Outcome;
-use page::write;
+use sector::answers;
 
 // Lays out the new record where the call is done, and hands back its number in document 01.
 fn hand_back(buffer: &mut [u8], outcome: Outcome) -> u32
@@ -23,7 +23,7 @@ fn hand_back(buffer: &mut [u8], outcome: Outcome) -> u32
     ensures buffer { λ r. ⌜ now (buffer .exit) ≡ recordLeft (now (buffer .entry)) outcome ⌝ }
 {
     let answer = outcome.answer;
-    let number = write::number_of(answer);
+    let number = answers::number_of(answer);
     if number != 0 {
         return number as u32;
     }
@@ -46,7 +46,7 @@ pub extern "C" fn nvs_open(image: &mut [u8], buffer: &mut [u8]) -> u32
     let page = outcome.page;
     encoding::put_record(page, buffer);
     let answer = outcome.answer;
-    write::number_of(answer) as u32
+    answers::number_of(answer) as u32
 }
 
 // Writes the header of a new page (`initialize`), stopped after `stop` units where it has more.
@@ -177,7 +177,13 @@ pub extern "C" fn nvs_append_variable(
         key: encoding::array_16(key),
     };
     let page = encoding::record_of(&buffer[..]);
-    let outcome = append::write_variable_sized_item(image, page, item, payload, stop as usize);
+    let outcome = append_variable::write_variable_sized_item(
+        image,
+        page,
+        item,
+        payload,
+        stop as usize,
+    );
     hand_back(buffer, outcome)
 }
 
@@ -223,8 +229,8 @@ pub extern "C" fn nvs_purge(image: &mut [u8], index: u64, span: u64) -> u32
     ensures number { λ r. ⌜ r ≡ numberOf (purge (now (image .entry))) ⌝ }
     ensures image { λ r. ⌜ now (image .exit) ≡ purgeImage (now (image .entry)) index span ⌝ }
 {
-    let answer = erase::purge_entries(image, index as usize, span as usize);
-    write::number_of(answer) as u32
+    let answer = purge::purge_entries(image, index as usize, span as usize);
+    answers::number_of(answer) as u32
 }
 
 // Zeroes the Erased items of a namespace (`purge_erased_for_namespace`).
@@ -238,6 +244,6 @@ pub extern "C" fn nvs_purge_namespace(image: &mut [u8], buffer: &mut [u8], names
         return BAD_CALL;
     }
     let page = encoding::record_of(&buffer[..]);
-    let outcome = erase::purge_erased_for_namespace(image, page, namespace);
+    let outcome = purge::purge_erased_for_namespace(image, page, namespace);
     hand_back(buffer, outcome)
 }

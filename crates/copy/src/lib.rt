@@ -7,37 +7,15 @@ ghost use lib.Dec.{eqb, ltb};
 ghost use Rattle.page.specs.Writing.{overFree};
 ghost use Rattle.sector.specs.declared.Answer.the-variants.{KeyNotFound, CorruptedData};
 ghost use Rattle.sector.specs.Answers.{refusal};
-ghost use Rattle.sector.specs.Item.{loads, hashOfItem};
-ghost use Rattle.sector.specs.Layout.{entriesPerPage, keyOf, spanOf};
+ghost use Rattle.sector.specs.Item.{loads};
+ghost use Rattle.sector.specs.Layout.{entriesPerPage, spanOf};
 ghost use Rattle.copy.specs.Copy.{copyChecks, copyIn, copyInImage};
 use page::Outcome;
 use page::ThinPage;
-use page::write;
 use sector::Answer;
 use sector::ENTRIES_PER_PAGE;
-use sector::item;
 
 const SECTOR_SIZE: usize = 4096;
-
-// ---- the item in the source
-
-fn key_of(entry: [u8; 32]) -> [u8; 16]
-    ensures { λ r. ⌜ r ≡ keyOf entry ⌝ }
-{
-    let mut key = [0u8; 16];
-    for k in 0..16usize {
-        key[k] = entry[8 + k];
-    }
-    key
-}
-
-// The hash by which a page's list finds an item (`Item::calculate_hash`).
-fn hash_of_item(entry: [u8; 32]) -> u32
-    ensures { λ r. ⌜ r ≡ hashOfItem entry ⌝ }
-{
-    let key = key_of(entry);
-    item::calculate_hash(entry[0], key, entry[3])
-}
 
 // ---- checks
 
@@ -116,7 +94,7 @@ pub fn copy_item_from(
     }
     let entry = load::entry_at(source, index);
     let span = entry[2] as usize;
-    let hash = hash_of_item(entry);
+    let hash = hash::hash_of_item(entry);
     let new = write::with_item(page, span, entry[0], hash);
     let map = new.map;
     let start = write::get_next_free_entry(page);

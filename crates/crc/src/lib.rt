@@ -3,9 +3,7 @@ ghost use mathlib.Core.Path.{_≡_};
 ghost use Prim.Native.Nat.{_+_, _%_, _<_, _≤_};
 ghost use lib.ListN.{length, take, drop};
 ghost use Rattle.crc.specs.Crc.{shifts, intake, register, crc32};
-ghost use Rattle.crc.specs.Nibble.{number};
-
-mod nibble;
+ghost use Rattle.nibble.specs.Nibble.{number};
 
 // 32 shifts of a word, by its eight nibbles.
 fn shift_32(word: u32) -> u32

@@ -4,7 +4,6 @@ use cutting::Found;
 use cutting::Request;
 use cutting::Sector;
 use libc::STDOUT_FILENO;
-use page::write;
 use sector::Answer;
 
 pub(crate) fn text(bytes: &[u8]) {

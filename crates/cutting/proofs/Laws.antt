@@ -12,7 +12,7 @@ use lib.Dec.{eqb}
 use lib.ListN.{length, getD, drop}
 use lib.Seq.{drop-cons, drop-length}
 use borrow.Author.Tests.{eq-eqb, ne-eqb}
-use Rattle.opening.specs.Opening.{sameBytes}
+use Rattle.marks.specs.Marks.{sameBytes}
 use Rattle.page.specs.declared.Listed.{Listed}
 use Rattle.page.specs.Record.{noItem}
 use Rattle.cutting.specs.Cutting.{samePlace, sameList, Found, Absent, Whole, Otherwise, sameFound}

@@ -10,7 +10,8 @@ use lib.ListN.{length}
 use Rattle.append.specs.declared.Single.{Single}
 use Rattle.append.specs.declared.Variable.{Variable}
 use Rattle.append.specs.Append.{appendSingle, appendSingleImage, appendVariable, appendVariableImage}
-use Rattle.opening.specs.Opening.{opening, openingImage, sameBytes}
+use Rattle.marks.specs.Marks.{sameBytes}
+use Rattle.opening.specs.Opening.{opening, openingImage}
 use Rattle.page.specs.declared.Listed.{Listed}
 use Rattle.page.specs.declared.Outcome.{Outcome}
 use Rattle.page.specs.declared.ThinPage.{ThinPage}

@@ -1,14 +1,13 @@
 // Power cuts: an append stopped after n units, the page opened, and what was found.
 ghost use mathlib.Core.Path.{_≡_};
 ghost use Prim.Native.Nat.{ℕ, _≤_};
-ghost use Rattle.opening.specs.Opening.{sameBytes};
+ghost use Rattle.marks.specs.Marks.{sameBytes};
 ghost use Rattle.cutting.specs.Cutting.{appended, appendedImage, cutAfter, finishedBy, sameList, sameItems, sameEntries, sameSector, foundIn, foundAfter, sameFound};
 use append::Single;
 use append::Variable;
 use page::Listed;
 use page::Outcome;
 use page::ThinPage;
-use page::write;
 use sector::Answer;
 use sector::ENTRIES_PER_PAGE;
 
@@ -88,7 +87,7 @@ pub fn append_item(
         chunk: NO_CHUNK,
         key,
     };
-    append::write_variable_sized_item(image, page, item, payload, stop)
+    append_variable::write_variable_sized_item(image, page, item, payload, stop)
 }
 
 // The append stopped after `stop` units, and the page opened then.
@@ -227,7 +226,7 @@ pub fn count_units(before: Sector, request: Request, payload: &[u8]) -> usize
         let page = before.page;
         let outcome = append_item(&mut image, page, request, payload, n);
         let answer = outcome.answer;
-        if write::number_of(answer) != STOPPED {
+        if sector::answers::number_of(answer) != STOPPED {
             return n;
         }
     }

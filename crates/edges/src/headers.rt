@@ -1,9 +1,8 @@
 // Initialise and mark full.
-use crate::records;
-use crate::records::Given;
-use crate::records::Sector;
-use crate::show;
-use page::write;
+use trials::lines;
+use trials::records;
+use trials::records::Given;
+use trials::records::Sector;
 
 fn initialize_units(sector: Sector) -> usize {
     for n in 0..records::MOST {
@@ -11,7 +10,7 @@ fn initialize_units(sector: Sector) -> usize {
         let page = sector.page;
         let outcome = header::initialize(&mut image, page, 1, n);
         let answer = outcome.answer;
-        if write::number_of(answer) != records::STOPPED {
+        if sector::answers::number_of(answer) != records::STOPPED {
             return n;
         }
     }
@@ -53,15 +52,15 @@ pub(crate) fn print_all() {
         image: [0xFF; 4096],
         page,
     };
-    show::print_page(b"initialise, image all 0xff", initialize(blank), 0);
+    lines::print_page(b"initialise, image all 0xff", initialize(blank), 0);
     let mut image = [0xFFu8; 4096];
     image[4095] = 0xFE;
     let used = Sector { image, page };
-    show::print_page(b"initialise, last byte 0xfe", initialize(used), 0);
+    lines::print_page(b"initialise, last byte 0xfe", initialize(used), 0);
     let given = initialize(records::fresh());
-    show::print_page(b"initialise, page Active", given, 0);
+    lines::print_page(b"initialise, page Active", given, 0);
     let full = mark_full(records::fresh());
-    show::print_left(b"mark full, page Active", full, 0);
+    lines::print_left(b"mark full, page Active", full, 0);
     let sector = records::after(full);
-    show::print_left(b"mark full, page Full", mark_full(sector), 0);
+    lines::print_left(b"mark full, page Full", mark_full(sector), 0);
 }

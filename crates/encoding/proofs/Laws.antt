@@ -11,7 +11,7 @@ use lib.Seq.{take-at, drop-append-add, drop-drop, take-suc, take-all, take-suc-s
 use Rattle.page.specs.declared.Listed.{Listed}
 use Rattle.page.specs.Record.{noItem}
 use Rattle.sector.specs.declared.PageState.the-variants.{Corrupt}
-use Rattle.sector.specs.Layout.{littleEndian, entrySize, chunks}
+use Rattle.sector.specs.Layout.{littleEndian}
 use Rattle.sector.proofs.Laws.{over}
 use Rattle.encoding.specs.Encoding.{stateOfByte, placeBytes, placesBytes, placeOf, placesOf, placeSize}
 
@@ -187,19 +187,3 @@ getD-placesOf (suc n) (suc k) bytes h =
     let shift : placeSize + placeSize * k ≡ placeSize * suc k = omega arith in
     getD-placesOf n k (drop placeSize bytes) (omega arith)
     ∙ ap placeOf (drop-drop (placeSize * k) placeSize bytes ∙ ap (λ (m : ℕ). drop m bytes) shift)
-
--- ---- entries
-
-pub length-chunks : (n : ℕ) (bytes : List ℕ) → length (chunks n bytes) ≡ n
-unfolding chunks
-length-chunks zero bytes = refl
-length-chunks (suc n) bytes = ap suc (length-chunks n (drop entrySize bytes))
-
-pub getD-chunks : (n k : ℕ) (bytes : List ℕ) → k < n → getD (chunks n bytes) k [] ≡ take entrySize (drop (entrySize * k) bytes)
-unfolding chunks
-getD-chunks zero k bytes h = absurd (omega arith)
-getD-chunks (suc n) zero bytes h = refl
-getD-chunks (suc n) (suc k) bytes h =
-    let shift : entrySize + entrySize * k ≡ entrySize * suc k = omega arith in
-    getD-chunks n k (drop entrySize bytes) (omega arith)
-    ∙ ap (take entrySize) (drop-drop (entrySize * k) entrySize bytes ∙ ap (λ (m : ℕ). drop m bytes) shift)

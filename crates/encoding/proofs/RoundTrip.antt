@@ -110,9 +110,9 @@ record-comes-back page holds =
     let map = page .map in
     let behind = countBytes page ++ placesBytes (page .list) in
     let at : (k : ℕ) → getD (map ++ behind) (32 + k) 0 ≡ getD behind k 0 =
-        λ k. ap (λ (n : ℕ). getD (map ++ behind) (n + k) 0) (sym (holds .map)) ∙ getD-append-add map behind k 0 in
+    λ k. ap (λ (n : ℕ). getD (map ++ behind) (n + k) 0) (sym (holds .map)) ∙ getD-append-add map behind k 0 in
     let places : drop 35 (map ++ behind) ≡ placesBytes (page .list) =
-        ap (λ (n : ℕ). drop (n + 3) (map ++ behind)) (sym (holds .map)) ∙ drop-append-add map behind 3 in
+    ap (λ (n : ℕ). drop (n + 3) (map ++ behind)) (sym (holds .map)) ∙ drop-append-add map behind 3 in
     same-fields (page .version)
     (state-byte (page .state))
     (number-littleEndian 4 (page .sequence) (holds .sequence))
@@ -140,12 +140,12 @@ bytes-come-back bytes whole small state =
     let at : (i : ℕ) → i < 675 → getD bytes i 0 ∷ drop (suc i) bytes ≡ drop i bytes = λ i h. sym (drop-cons bytes i 0 (omega (arith, whole, h))) in
     let used : usedOf bytes ≡ getD bytes 42 0 = ap (λ (b : Bool). cond b (getD bytes 42 0) 255) state in
     let counts : usedOf bytes ∷ getD bytes 43 0 ∷ getD bytes 44 0 ∷ placesBytes (placesOf 126 (drop 45 bytes)) ≡ drop 42 bytes =
-        ap₂ (λ (u : ℕ) (rest : List ℕ). u ∷ getD bytes 43 0 ∷ getD bytes 44 0 ∷ rest) used places
-        ∙ ap (λ (rest : List ℕ). getD bytes 42 0 ∷ getD bytes 43 0 ∷ rest) (at 44 (omega arith))
-        ∙ ap (λ (rest : List ℕ). getD bytes 42 0 ∷ rest) (at 43 (omega arith))
-        ∙ at 42 (omega arith) in
+    ap₂ (λ (u : ℕ) (rest : List ℕ). u ∷ getD bytes 43 0 ∷ getD bytes 44 0 ∷ rest) used places
+    ∙ ap (λ (rest : List ℕ). getD bytes 42 0 ∷ getD bytes 43 0 ∷ rest) (at 44 (omega arith))
+    ∙ ap (λ (rest : List ℕ). getD bytes 42 0 ∷ rest) (at 43 (omega arith))
+    ∙ at 42 (omega arith) in
     let map : field 10 32 bytes ++ (usedOf bytes ∷ getD bytes 43 0 ∷ getD bytes 44 0 ∷ placesBytes (placesOf 126 (drop 45 bytes))) ≡ drop 10 bytes =
-        ap (λ (rest : List ℕ). field 10 32 bytes ++ rest) (counts ∙ sym (drop-drop 32 10 bytes)) ∙ take-append-drop 32 (drop 10 bytes) in
+    ap (λ (rest : List ℕ). field 10 32 bytes ++ rest) (counts ∙ sym (drop-drop 32 10 bytes)) ∙ take-append-drop 32 (drop 10 bytes) in
     ap₂ (λ (s : ℕ) (rest : List ℕ). s ∷ rest) (byte-state (getD bytes 0 0) (leb-true (getD bytes 0 0) 5 state))
     (ap (λ (rest : List ℕ). littleEndian 4 (number (field 1 4 bytes)) ++ (getD bytes 5 0 ∷ (littleEndian 4 (number (field 6 4 bytes)) ++ rest))) map
     ∙ ap (λ (rest : List ℕ). littleEndian 4 (number (field 1 4 bytes)) ++ (getD bytes 5 0 ∷ rest)) (word-laid bytes 6 all (omega (arith, whole)))

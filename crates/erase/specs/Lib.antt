@@ -1,2 +1,1 @@
 pub mod Erase
-pub mod Purge

@@ -8,7 +8,6 @@ ghost use Rattle.header.specs.Calls.{initialiseChecks, initialised, init
 use page::Outcome;
 use page::ThinPage;
 use page::fit;
-use page::write;
 use sector::Answer;
 use sector::PageState;
 
@@ -72,7 +71,7 @@ pub fn initialize(image: &mut [u8], page: ThinPage, sequence: u32, stop: usize) 
             page,
         };
     }
-    let header = sector::header::header_bytes(sequence);
+    let header = page_header::header_bytes(sequence);
     let total = flash::write_aligned(image, 0, &header, stop);
     if stop < total {
         return Outcome {
@@ -80,7 +79,7 @@ pub fn initialize(image: &mut [u8], page: ThinPage, sequence: u32, stop: usize) 
             page,
         };
     }
-    let crc = sector::header::header_crc(header);
+    let crc = page_header::header_crc(header);
     let new = initialized(page, sequence, crc);
     Outcome {
         answer: Answer::Done,

@@ -9,7 +9,7 @@ pub(crate) const FILLED: u8 = 0x77;
 // An item's header in namespace 1. The payload's CRC is 0, and so wrong: no leaf checks it.
 pub(crate) fn header(kind: u8, span: u8, size: u8) -> [u8; 32] {
     let data = [size, 0, 0xFF, 0xFF, 0, 0, 0, 0];
-    sector::item::item_bytes(1, kind, span, 255, [0x6B; 16], data)
+    item::item_bytes(1, kind, span, 255, [0x6B; 16], data)
 }
 
 // The same with a type byte of which the CRC does not know.

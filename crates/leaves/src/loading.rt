@@ -1,6 +1,5 @@
 // Load and raw read: the answer, and the type byte of the item.
 use crate::images;
-use crate::show;
 
 fn print_item(answer: sector::Answer, item: [u8; 32]) {
     show::answered(b": answer ", answer);

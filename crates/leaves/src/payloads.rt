@@ -1,7 +1,6 @@
 // Load data: the answer, the size, and how many of the output's 100 bytes became the sector's.
 ghost use Prim.Native.Nat.{_<_, _≤_};
 use crate::images;
-use crate::show;
 
 fn count_filled(output: &[u8; 100]) -> u64 {
     let mut count: u64 = 0;
@@ -27,7 +26,7 @@ fn print_data(name: &[u8], image: &[u8], index: usize, room: usize)
     show::text(b"load data, ");
     show::text(name);
     let mut output = [0xA5u8; 100];
-    let loaded = load::load_referenced_data_into(image, index, &mut output[..room]);
+    let loaded = payload::load_referenced_data_into(image, index, &mut output[..room]);
     let answer = loaded.answer;
     print_given(answer, loaded.size, &output);
 }

@@ -1,8 +1,6 @@
 // Type bytes: what each of the 256 becomes, and a primitive's width.
 ghost use Prim.Native.Nat.{_≤_};
-use crate::show;
 use sector::Answer;
-use sector::types;
 
 fn print_type(name: &[u8], byte: u8) {
     show::byte(name, byte);

@@ -1,24 +1,21 @@
--- Laws of the readings: when a list of checks accepts, what the calls' checks leave known, an entry's fields, and a copy's turn.
+-- Laws of the readings: when a list of checks accepts, what the calls' checks leave known, and an entry's fields.
 -- Assumes nothing.
 use mathlib.Core.Path.{_≡_, refl, sym, ap, _∙_}
 use mathlib.Core.Bool.{Bool, true, false, cond, _&&_, false≢true, and-eq-true-iff}
 use mathlib.Core.List.{List, [], _∷_, _++_}
-use Prim.Native.Nat.{ℕ, zero, suc, _+_, _-_, _*_, _≤_, _<_}
-use native.Mathlib.Nat.{zero-add}
-use native.Mathlib.Numerals.{add-one}
+use Prim.Native.Nat.{ℕ, zero, suc, _+_, _-_, _≤_, _<_}
 use native.Mathlib.Omega.{arith}
 use lib.Dec.{eqb, ltb}
-use lib.ListN.{length, take, drop, set, getD, length-append, length-take, length-drop}
-use lib.Seq.{take-take, drop-drop, drop-set-lt, getD-set-same, getD-set-other, paste-suc}
-use borrow.Author.Tests.{ne-eqb, ltb-true, ltb-false, eqb-true, not-false}
+use lib.ListN.{length, take, drop, getD, length-take, length-drop}
+use lib.Seq.{take-take, drop-drop}
+use borrow.Author.Tests.{ne-eqb, ltb-true, eqb-true, not-false}
 use Rattle.flash.specs.Flash.{every}
 use Rattle.sector.specs.declared.Answer.{Answer}
 use Rattle.sector.specs.declared.Answer.the-variants.{Done}
 use Rattle.sector.specs.Answers.{Check, numberOf, refusal, accepted}
-use Rattle.sector.specs.Layout.{sectorSize, entriesPerPage, entrySize, entryAddress, entryAt, field, spanOf, sizeOf, typeByteOf}
-use Rattle.sector.specs.Types.{sanitized, itemType, typeByte, type-byte}
+use Rattle.sector.specs.Layout.{sectorSize, entriesPerPage, entrySize, entryAddress, entryAt, field}
 use Rattle.load.specs.declared.Loaded.{Loaded}
-use Rattle.load.specs.Load.{entryChecks, loadChecks, refusedItem, loadedOr, roundedUp, payloadChecks, dataChecks}
+use Rattle.load.specs.Load.{entryChecks, loadChecks, refusedItem, loadedOr}
 
 -- ---- checks
 
@@ -102,26 +99,11 @@ loadedOr-answer checks item = go (accepted checks) refl
 pub loadedOr-item : (checks : List Check) (item : List ℕ) → accepted checks ≡ true → loadedOr checks item .item ≡ item
 loadedOr-item checks item h = rw h
 
--- the payload's checks do not see that a type byte was made one of the thirteen
-pub payloadChecks-sanitized : (entry : List ℕ) (i room : ℕ) → 1 < length entry
-    → payloadChecks (sanitized entry) i room ≡ payloadChecks entry i room
-payloadChecks-sanitized entry i room h =
-    let byte = typeByteOf entry in
-    rw (
-      getD-set-same entry 1 (typeByte byte) 0 h,
-      type-byte (itemType byte),
-      getD-set-other entry 1 2 (typeByte byte) 0 (λ e. omega arith),
-      drop-set-lt 24 entry 1 (typeByte byte) (omega arith),
-    )
-
 -- ---- fields of an entry
 
 pub length-entryAt : (image : List ℕ) (i : ℕ) → length image ≡ sectorSize → i < entriesPerPage
     → length (entryAt image i) ≡ entrySize
 length-entryAt image i h inside = simp (length-take, length-drop) (omega arith)
-
-pub sizeOf-sanitized : (entry : List ℕ) → sizeOf (sanitized entry) ≡ sizeOf entry
-sizeOf-sanitized entry = rw (drop-set-lt 24 entry 1 (typeByte (typeByteOf entry)) (omega arith))
 
 field-take : (offset size n : ℕ) (bytes : List ℕ) → offset + size ≤ n
     → field offset size (take n bytes) ≡ field offset size bytes
@@ -136,57 +118,3 @@ pub field-entryAt : (image : List ℕ) (i offset size : ℕ) → offset + size �
 field-entryAt image i offset size h =
     field-take offset size entrySize (drop (entryAddress i) image) h
     ∙ ap (take size) (drop-drop offset (entryAddress i) image)
-
--- ---- load data
-
--- what passes all of load data's checks
-pub record DataFits (image : List ℕ) (i room : ℕ) : Type 0 where
-  pub whole : length image ≡ sectorSize
-  pub inside : i < entriesPerPage
-  pub spans : i + spanOf (entryAt image i) ≤ entriesPerPage
-  pub holds : sizeOf (entryAt image i) ≤ entrySize * (spanOf (entryAt image i) - 1)
-  pub room-fits : roundedUp (sizeOf (entryAt image i)) ≤ room
-
-pub data-fits : (image : List ℕ) (i room : ℕ) → accepted (dataChecks image i room) ≡ true → DataFits image i room
-data-fits image i room h =
-    let at : (n : ℕ) → getD (dataChecks image i room) n (false, Done) .0 ≡ false =
-    λ n. accepted-at (dataChecks image i room) n h in
-    record {
-      whole = eqb-true _ _ (not-false _ (at 0));
-      inside = ltb-true _ _ (not-false _ (at 1));
-      spans = ltb-false _ _ (at 5);
-      holds = ltb-false _ _ (at 6);
-      room-fits = ltb-false _ _ (at 7);
-    }
-
--- and its data lies inside the image
-pub data-inside : (image : List ℕ) (i room : ℕ) → DataFits image i room
-    → entryAddress (i + 1) + roundedUp (sizeOf (entryAt image i)) ≤ length image
-data-inside image i room fit = omega arith
-
--- ---- a copy
-
--- the part that starts at `start` and ends n bytes on
-pub length-part : (image : List ℕ) (start n : ℕ) → start + n ≤ length image
-    → length (take (start + n - start) (drop start image)) ≡ n
-length-part image start n h = simp (length-take, length-drop) (omega arith)
-
--- its bytes, and what stays behind them
-pub part-copied : (image output : List ℕ) (start n : ℕ) → start + n ≤ length image
-    → let part = take (start + n - start) (drop start image) in
-    part ++ drop (length part) output ≡ take n (drop start image) ++ drop n output
-part-copied image output start n h =
-    let e : start + n - start ≡ n = omega arith in
-    rw (length-part image start n h, e)
-
--- k bytes of a part are in, and the next one is stored
-pub copied-next : (part into : List ℕ) (k : ℕ) → k < length part → k < length into
-    → set (take k part ++ drop k into) k (getD part k 0) ≡ take (k + 1) part ++ drop (k + 1) into
-copied-next part into k inside room =
-    let place : 0 + k < length into = omega arith in
-    rw (add-one k) (rw (zero-add k, zero-add (suc k)) at (paste-suc into 0 part k 0 place inside))
-
--- a copy keeps the length of what it goes into
-pub length-copied : (part into : List ℕ) (k : ℕ) → k ≤ length part → k ≤ length into
-    → length (take k part ++ drop k into) ≡ length into
-length-copied part into k inside room = simp (length-append, length-take, length-drop) (omega arith)

@@ -1,17 +1,3 @@
-pub mod Verdicts
-pub mod Course
-pub mod Midway
-pub mod Reopened
-pub mod Closed
-pub mod Cuts
-pub mod OpenedFront
-pub mod KeptItem
-pub mod ErasedBytes
-pub mod TwoPasses
-pub mod Arrays
-pub mod Entries
 pub mod Steps
-pub mod FreeTail
 pub mod Progress
-pub mod Passes
 pub mod Unique

@@ -9,7 +9,7 @@ use native.Mathlib.Numerals.{add-one}
 use native.Mathlib.Omega.{arith}
 use lib.Dec.{eqb}
 use lib.ListN.{length, take, drop, set, replicate, length-drop, length-set, length-replicate, length-append, take-append-drop, drop-of-length-le}
-use lib.Seq.{drop-cons, take-add, drop-drop, take-at, take-set-le, drop-set-add, take-all, set-append-seam}
+use lib.Seq.{take-add, drop-drop, take-at, take-set-le, drop-set-add, take-all, set-append-seam}
 use Rattle.flash.proofs.Laws.{Bytes}
 use Rattle.page.specs.declared.Listed.{Listed}
 use Rattle.page.specs.Record.{noItem, padded}
@@ -18,13 +18,15 @@ use Rattle.sector.specs.declared.EntryMapState.the-variants.{Empty, Written, Er
 use Rattle.sector.specs.Item.{hashOfItem}
 use Rattle.sector.specs.Layout.{entriesPerPage, entryAt, entriesOf, namespaceOf}
 use Rattle.sector.specs.Map.{unpack, statesOf, stateAt, markRange}
-use Rattle.sector.proofs.Laws.{length-statesOf, getD-statesOf, length-markRange}
+use Rattle.sector.proofs.Laws.{length-statesOf, length-markRange, length-entriesOf}
 use Rattle.sector.proofs.Marks.{marked, both, take-marked, drop-marked, marked-erased, statesOf-markRange, unpack-markRange, bytes-markRange}
 use Rattle.opening.specs.declared.Listing.{Listing}
-use Rattle.opening.specs.Reading.{Verdict, NotAnItem, RefusedEntry, RefusedItem, Kept, Item, isUsable, usable, verdictAt, stepsOver, markOf, markBehind, walk, withKept, keptFrom}
+use Rattle.reading.specs.declared.Verdict.{Verdict}
+use Rattle.reading.specs.declared.Verdict.the-variants.{NotAnItem, RefusedEntry, RefusedItem, Kept}
+use Rattle.reading.specs.Reading.{Item, isUsable, usable, verdictAt, stepsOver, markOf, markBehind, walk, withKept, keptFrom}
 use Rattle.opening.specs.Opening.{isRefusedItem, refusedHeaders, listedItems}
 use Rattle.opening.specs.Steps.{markedBy, listingOf, withItem, listedBy}
-use Rattle.opening.proofs.Entries.{length-entries, getD-entries}
+use Rattle.reading.proofs.Entries.{states-from, entries-from}
 use Rattle.opening.proofs.Steps.{walk-skip, refused-headers-skip, kept-skip, steps-over-le, kept-usable}
 
 -- ---- lists done so far
@@ -57,19 +59,9 @@ abbrev pub verdictOf : List ℕ → List ℕ → ℕ → Verdict
 verdictOf image map i = verdictAt (stateAt map i) (entryAt image i) (drop (i + 1) (statesOf map)) (drop (i + 1) (entriesOf image))
 
 module _ (image map : List ℕ) (i : ℕ) (long : length map ≡ 32) (inside : i < 126) where
-  pub states-from : drop i (statesOf map) ≡ stateAt map i ∷ drop (i + 1) (statesOf map)
-  states-from =
-      let fits : i < length (statesOf map) = rw (length-statesOf map long) inside in
-      rw (drop-cons (statesOf map) i Empty fits, getD-statesOf map i long inside, add-one i)
-
-  pub entries-from : drop i (entriesOf image) ≡ entryAt image i ∷ drop (i + 1) (entriesOf image)
-  entries-from =
-      let fits : i < length (entriesOf image) = rw (length-entries image) inside in
-      rw (drop-cons (entriesOf image) i [] fits, getD-entries image i inside, add-one i)
-
   entries-behind : length (drop (i + 1) (entriesOf image)) ≡ 125 - i
   entries-behind =
-      let all = length-entries image in
+      let all = length-entriesOf image in
       length-drop (i + 1) (entriesOf image) ∙ omega arith
 
   states-behind : length (drop (i + 1) (statesOf map)) ≡ 125 - i
@@ -100,7 +92,7 @@ module _ (image map : List ℕ) (i : ℕ) (long : length map ≡ 32) (inside : i
       let v = verdictOf image map i in
       let states = drop (i + 1) (statesOf map) in
       let entries = drop (i + 1) (entriesOf image) in
-      ap₂ (λ (ss : List EntryMapState) (es : List (List ℕ)). walk zero Erased ss es) states-from entries-from
+      ap₂ (λ (ss : List EntryMapState) (es : List (List ℕ)). walk zero Erased ss es) (states-from image map i long inside) (entries-from image map i long inside)
       ∙ ap (λ (rest : List EntryMapState). markOf (stateAt map i) v ∷ rest)
       (walk-skip (stepsOver v) (markBehind v) states entries steps-states steps-entries
       ∙ ap₂ (λ (ss : List EntryMapState) (es : List (List ℕ)). replicate (stepsOver v) (markBehind v) ++ walk zero Erased ss es)
@@ -115,7 +107,7 @@ module _ (image map : List ℕ) (i : ℕ) (long : length map ≡ 32) (inside : i
       let v = verdictOf image map i in
       let states = drop (i + 1) (statesOf map) in
       let entries = drop (i + 1) (entriesOf image) in
-      ap₂ (λ (ss : List EntryMapState) (es : List (List ℕ)). refusedHeaders zero ss es) states-from entries-from
+      ap₂ (λ (ss : List EntryMapState) (es : List (List ℕ)). refusedHeaders zero ss es) (states-from image map i long inside) (entries-from image map i long inside)
       ∙ ap (λ (rest : List Bool). isRefusedItem v ∷ rest)
       (refused-headers-skip (stepsOver v) states entries steps-states steps-entries
       ∙ ap₂ (λ (ss : List EntryMapState) (es : List (List ℕ)). replicate (stepsOver v) false ++ refusedHeaders zero ss es)
@@ -130,7 +122,7 @@ module _ (image map : List ℕ) (i : ℕ) (long : length map ≡ 32) (inside : i
       let v = verdictOf image map i in
       let states = drop (i + 1) (statesOf map) in
       let entries = drop (i + 1) (entriesOf image) in
-      ap₂ (λ (ss : List EntryMapState) (es : List (List ℕ)). keptFrom zero i ss es) states-from entries-from
+      ap₂ (λ (ss : List EntryMapState) (es : List (List ℕ)). keptFrom zero i ss es) (states-from image map i long inside) (entries-from image map i long inside)
       ∙ ap (λ (rest : List Item). withKept v i (entryAt image i) entries rest)
       (kept-skip (stepsOver v) (suc i) states entries steps-states steps-entries
       ∙ ap₂ (λ (ss : List EntryMapState) (es : List (List ℕ)). keptFrom zero (suc i + stepsOver v) ss es)

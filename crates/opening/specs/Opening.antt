@@ -1,31 +1,32 @@
 -- Opening (01, 'Opening'): which pages open, the map units that it programs, the record that it hands back.
 --
 -- In order: the header's verdict; the kept items and the list; the new map and its units, in two passes; answer and image.
--- The passes are so that a cut during opening, opened again, gives what one whole opening gives: first the upper bit of every entry
--- that becomes Erased and is not the header of a refused payload item, then the new map. Only units that change are programmed.
+-- Not here: the reading (crate reading), and what the passes do to the states and the units (crate marks).
 -- Assumes nothing.
 use mathlib.Core.Bool.{Bool, true, false, _&&_, not, cond}
 use mathlib.Core.List.{List, [], _∷_, _++_}
-use Prim.Native.Nat.{ℕ, zero, suc, _+_, _*_}
+use Prim.Native.Nat.{ℕ, zero, suc, _+_}
 use lib.Dec.{eqb}
-use lib.ListN.{length, take, drop, getD}
-use Rattle.flash.specs.Flash.{Unit4, units, run, allOnes}
+use lib.ListN.{length, drop, getD}
+use Rattle.flash.specs.Flash.{Unit4, run, allOnes}
 use Rattle.page.specs.declared.Listed.{Listed}
 use Rattle.page.specs.declared.Outcome.{Outcome}
 use Rattle.page.specs.declared.ThinPage.{ThinPage}
 use Rattle.page.specs.Record.{isUninitialized, padded, uninitialized}
 use Rattle.page.specs.Writing.{answered}
-use Rattle.sector.specs.declared.Answer.{Answer}
 use Rattle.sector.specs.declared.Answer.the-variants.{Done, BadImage, CorruptedData}
 use Rattle.sector.specs.declared.EntryMapState.{EntryMapState}
-use Rattle.sector.specs.declared.EntryMapState.the-variants.{Empty, Written, Erased, Illegal}
+use Rattle.sector.specs.declared.EntryMapState.the-variants.{Written, Erased}
 use Rattle.sector.specs.declared.PageState.{PageState}
 use Rattle.sector.specs.declared.PageState.the-variants.{Uninitialized, Active, Full, Freeing, Corrupt, Invalid}
 use Rattle.sector.specs.Header.{stateOfWord, headerCrc}
 use Rattle.sector.specs.Item.{hashOfItem}
-use Rattle.sector.specs.Layout.{sectorSize, entriesPerPage, mapOffset, field, mapOf, entriesOf, stateWord, sequenceOf, versionOf, storedHeaderCrc, namespaceOf}
-use Rattle.sector.specs.Map.{statesOf, unpack, pack, sameState, countIn}
-use Rattle.opening.specs.Reading.{Verdict, NotAnItem, RefusedEntry, RefusedItem, Kept, verdictAt, stepsOver, Item, item, keptFrom, openedStates}
+use Rattle.sector.specs.Layout.{sectorSize, entriesPerPage, mapOf, entriesOf, stateWord, sequenceOf, versionOf, storedHeaderCrc, namespaceOf}
+use Rattle.sector.specs.Map.{statesOf, unpack, pack, countIn}
+use Rattle.marks.specs.Marks.{firstPass, changedUnits}
+use Rattle.reading.specs.declared.Verdict.{Verdict}
+use Rattle.reading.specs.declared.Verdict.the-variants.{NotAnItem, RefusedEntry, RefusedItem, Kept}
+use Rattle.reading.specs.Reading.{verdictAt, stepsOver, Item, item, keptFrom, openedStates}
 pub use Rattle.opening.specs.declared.HeaderVerdict.{HeaderVerdict}
 pub use Rattle.opening.specs.declared.HeaderVerdict.the-variants.{Blank, Opens, WrongPageState, WrongVersion, WrongHeaderCrc}
 
@@ -88,21 +89,6 @@ refusedHeaders zero (s ∷ states) (entry ∷ entries) =
     ∷ refusedHeaders (stepsOver (verdictAt s entry states entries)) states entries
 refusedHeaders (suc k) (s ∷ states) (entry ∷ entries) = false ∷ refusedHeaders k states entries
 
--- the upper bit cleared
-abbrev pub upperCleared : EntryMapState → EntryMapState
-upperCleared Empty = Illegal
-upperCleared Written = Erased
-upperCleared Erased = Erased
-upperCleared Illegal = Illegal
-
--- the states after the first pass, from those before opening, those that it leaves, and the refused headers
-abbrev pub firstPass : List EntryMapState → List EntryMapState → List Bool → List EntryMapState
-firstPass [] news headers = []
-firstPass (s ∷ states) [] headers = s ∷ states
-firstPass (s ∷ states) (new ∷ news) [] = s ∷ states
-firstPass (s ∷ states) (new ∷ news) (header ∷ headers) =
-    cond (sameState new Erased && not header) (upperCleared s) s ∷ firstPass states news headers
-
 -- the map after the first pass
 unfoldable pub firstMap : List ℕ → List ℕ
 firstMap image =
@@ -110,22 +96,6 @@ firstMap image =
     pack
     (firstPass states (openedStates states (entriesOf image)) (refusedHeaders zero states (entriesOf image))
     ++ drop entriesPerPage (unpack (mapOf image)))
-
--- the same bytes
-abbrev pub sameBytes : List ℕ → List ℕ → Bool
-sameBytes [] ys = eqb (length ys) 0
-sameBytes (x ∷ xs) [] = false
-sameBytes (x ∷ xs) (y ∷ ys) = eqb x y && sameBytes xs ys
-
--- unit j of a map, of which there are eight
-abbrev pub mapUnit : ℕ → List ℕ → List ℕ
-mapUnit j map = field (4 * j) 4 map
-
--- the units from j on, n of them, in which two maps differ, with the bytes of the second
-unfoldable pub changedUnits : ℕ → ℕ → List ℕ → List ℕ → List Unit4
-changedUnits j zero old new = []
-changedUnits j (suc n) old new =
-    cond (sameBytes (mapUnit j old) (mapUnit j new)) [] (units (mapOffset + 4 * j) (mapUnit j new)) ++ changedUnits (suc j) n old new
 
 -- only the map is programmed
 unfoldable pub openingPlan : List ℕ → List Unit4

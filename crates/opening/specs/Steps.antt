@@ -1,23 +1,23 @@
--- The steps that the code takes: what the verdict at an entry does to the map, and to the list of kept items; the entries before the
--- free tail shut, by where it starts; the record of a header, a map and a list.
+-- The steps that the code takes: what the verdict at an entry does to the map, and to the list of kept items; the record
+-- of a header, a map and a list.
 --
 -- Assumes nothing.
 use mathlib.Core.Bool.{cond}
-use mathlib.Core.List.{List, _++_, map}
+use mathlib.Core.List.{List, map}
 use Prim.Native.Nat.{ℕ, _+_}
 use lib.Dec.{eqb}
-use lib.ListN.{length, take, drop, set}
+use lib.ListN.{length, set}
 use Rattle.page.specs.declared.Listed.{Listed}
 use Rattle.page.specs.declared.ThinPage.{ThinPage}
 use Rattle.page.specs.Record.{padded}
-use Rattle.sector.specs.declared.EntryMapState.{EntryMapState}
 use Rattle.sector.specs.declared.EntryMapState.the-variants.{Written, Erased}
 use Rattle.sector.specs.Header.{stateOfWord}
 use Rattle.sector.specs.Item.{hashOfItem}
 use Rattle.sector.specs.Layout.{stateWord, sequenceOf, versionOf, storedHeaderCrc, namespaceOf}
 use Rattle.sector.specs.Map.{statesOf, countIn, markRange}
 use Rattle.opening.specs.declared.Listing.{Listing}
-use Rattle.opening.specs.Reading.{Verdict, NotAnItem, RefusedEntry, RefusedItem, Kept, shut}
+use Rattle.reading.specs.declared.Verdict.{Verdict}
+use Rattle.reading.specs.declared.Verdict.the-variants.{NotAnItem, RefusedEntry, RefusedItem, Kept}
 
 -- the map, with the mark that the verdict at entry i gives
 abbrev pub markedBy : Verdict → ℕ → List ℕ → List ℕ
@@ -25,10 +25,6 @@ markedBy NotAnItem i map = map
 markedBy (RefusedEntry reason) i map = markRange Erased i 1 map
 markedBy (RefusedItem reason k) i map = markRange Erased i (k + 1) map
 markedBy (Kept k) i map = markRange Written i (k + 1) map
-
--- the first n states, shut
-abbrev pub shutTo : ℕ → List EntryMapState → List EntryMapState
-shutTo n states = map shut (take n states) ++ drop n states
 
 -- places in use, as the code holds them
 abbrev pub listingOf : List Listed → Listing

@@ -8,7 +8,6 @@ use page::fit;
 use sector::CRC_START;
 use sector::PageState;
 use sector::bytes;
-use sector::header;
 
 const VERSION: u8 = 0xFE;
 
@@ -31,7 +30,7 @@ pub(crate) fn header_verdict(image: &[u8]) -> HeaderVerdict
     requires { ⌜ length (now image) ≡ sectorSize ⌝ }
     ensures { λ r. ⌜ r ≡ headerVerdictOf (now (image .entry)) ⌝ }
 {
-    let state = header::state_of_word(bytes::number_at(image, 0));
+    let state = page_header::state_of_word(bytes::number_at(image, 0));
     if fit::is_uninitialized(state) {
         if flash::all_ones(image) {
             return HeaderVerdict::Blank;

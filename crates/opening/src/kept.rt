@@ -3,32 +3,11 @@ ghost use mathlib.Core.Path.{_≡_};
 ghost use mathlib.Core.List.{[]};
 ghost use Prim.Native.Nat.{_<_};
 ghost use lib.ListN.{length};
-ghost use Rattle.sector.specs.Item.{hashOfItem};
-ghost use Rattle.sector.specs.Layout.{sectorSize, entriesPerPage, entryAt, keyOf};
+ghost use Rattle.sector.specs.Layout.{sectorSize, entriesPerPage, entryAt};
 ghost use Rattle.opening.specs.Steps.{listingOf, withItem, listedBy};
 use crate::Listing;
-use crate::Verdict;
 use page::Listed;
-use sector::item;
-
-const KEY_OFFSET: usize = 8;
-
-fn key_of(entry: [u8; 32]) -> [u8; 16]
-    ensures { λ r. ⌜ r ≡ keyOf entry ⌝ }
-{
-    let mut key = [0u8; 16];
-    for k in 0..16usize {
-        key[k] = entry[KEY_OFFSET + k];
-    }
-    key
-}
-
-// The hash of an item's header entry.
-fn hash_of(entry: [u8; 32]) -> u32
-    ensures { λ r. ⌜ r ≡ hashOfItem entry ⌝ }
-{
-    item::calculate_hash(entry[0], key_of(entry), entry[3])
-}
+use reading::Verdict;
 
 // No place in use.
 pub(crate) fn empty() -> Listing
@@ -49,7 +28,7 @@ fn with_item(listing: Listing, entry: [u8; 32], index: usize) -> Listing
     if entry[0] == 0 {
         return listing;
     }
-    let hash = hash_of(entry);
+    let hash = hash::hash_of_item(entry);
     let len = listing.len;
     let mut list = listing.list;
     list[len as usize] = Listed {

@@ -6,12 +6,9 @@ ghost use Rattle.opening.specs.Opening.{firstMap, openedPage};
 ghost use Rattle.opening.specs.Steps.{recordOf};
 use crate::Changes;
 use crate::Listing;
-use crate::marks;
 use crate::walk;
 use page::ThinPage;
 use sector::bytes;
-use sector::header;
-use sector::map;
 
 const MAP_OFFSET: usize = 32;
 
@@ -32,7 +29,7 @@ fn record_of(image: &[u8], map: [u8; 32], listing: Listing) -> ThinPage
     requires { ⌜ length (now image) ≡ sectorSize ⌝ }
     ensures { λ r. ⌜ r ≡ recordOf (now (image .entry)) map listing ⌝ }
 {
-    let state = header::state_of_word(bytes::number_at(image, 0));
+    let state = page_header::state_of_word(bytes::number_at(image, 0));
     let sequence = bytes::number_at(image, 4);
     let crc = bytes::number_at(image, 28);
     let statistics = map::get_entry_statistics(map);

@@ -4,16 +4,14 @@ ghost use Prim.Native.Nat.{zero, _+_, _<_};
 ghost use lib.ListN.{length, drop};
 ghost use Rattle.sector.specs.Layout.{sectorSize, entriesPerPage, entriesOf};
 ghost use Rattle.sector.specs.Map.{unpack, statesOf};
-ghost use Rattle.opening.specs.Reading.{stepsOver, walk, keptFrom};
+ghost use Rattle.reading.specs.Reading.{stepsOver, walk, keptFrom};
 ghost use Rattle.opening.specs.Opening.{isRefusedItem, refusedHeaders, listedItems};
 ghost use Rattle.opening.specs.Steps.{markedBy, listingOf};
-use crate::Verdict;
 use crate::Walked;
 use crate::kept;
-use crate::reading;
+use reading::Verdict;
 use sector::ENTRIES_PER_PAGE;
 use sector::EntryMapState;
-use sector::map;
 
 fn steps_over(verdict: Verdict) -> usize
     ensures { λ r. ⌜ r ≡ stepsOver verdict ⌝ }

@@ -8,7 +8,6 @@ use crate::Listed;
 use crate::ThinPage;
 use sector::ENTRIES_PER_PAGE;
 use sector::PageState;
-use sector::map;
 
 // The place names an entry, and its hash has 24 bits.
 fn place_fits(place: Listed) -> bool

@@ -1,6 +1,5 @@
 // The record of a page (page.rs, ThinPage), by value, whether it is fit to use, and what the writing calls share.
 pub mod fit;
-pub mod write;
 
 use sector::Answer;
 use sector::PageState;

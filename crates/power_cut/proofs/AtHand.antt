@@ -25,9 +25,9 @@ use Rattle.sector.specs.Layout.{number, field, mapOf, stateWord, sequenceOf, ve
 use Rattle.sector.specs.Item.{hashOfItem}
 use Rattle.sector.specs.Map.{statesOf, countIn, sameState, markRange}
 use Rattle.sector.proofs.Marks.{countIn-append}
-use Rattle.opening.specs.Reading.{Item, item}
+use Rattle.reading.specs.Reading.{Item, item}
 use Rattle.opening.specs.Opening.{keptItems, openedMap, openedPage, headerOf, listedItems}
-use Rattle.opening.proofs.Verdicts.{States, Entries}
+use Rattle.reading.proofs.Verdicts.{States, Entries}
 use Rattle.power_cut.proofs.Standing.{Standing, standing-map, standing-kept, standing-openedMap}
 
 -- ---- fields of the header

@@ -22,15 +22,14 @@ use Rattle.sector.specs.declared.PageState.the-variants.{Full}
 use Rattle.sector.specs.Header.{stateBytes}
 use Rattle.sector.specs.Layout.{chunks, entriesOf, mapOf, entryAddress}
 use Rattle.sector.specs.Map.{statesOf, markRange, mapUnits}
-use Rattle.sector.proofs.Laws.{length-markRange}
+use Rattle.sector.proofs.Laws.{length-markRange, length-chunks}
 use Rattle.sector.proofs.Marks.{marked, marked-at, marked-empty, mapOf-parts, run-take-mapUnits, run-mapUnits, statesOf-splice, statesOf-markRange, length-mapUnits}
 use Rattle.page.specs.Writing.{fullUnits, itemPlan}
-use Rattle.opening.specs.Reading.{isUsable, Item, item, keptFrom}
+use Rattle.reading.specs.Reading.{isUsable, Item, item, keptFrom}
 use Rattle.opening.specs.Opening.{keptItems}
-use Rattle.opening.proofs.Verdicts.{States, Entries, Whole}
-use Rattle.opening.proofs.Closed.{Closed, closed-append-item}
-use Rattle.opening.proofs.Cuts.{Marking, kept-unmarked, kept-marked}
-use Rattle.opening.proofs.Entries.{length-chunks}
+use Rattle.reading.proofs.Verdicts.{States, Entries, Whole}
+use Rattle.reopening.proofs.Closed.{Closed, closed-append-item}
+use Rattle.reopening.proofs.Cuts.{Marking, kept-unmarked, kept-marked}
 use Rattle.power_cut.proofs.Chunks.{chunks-append}
 use Rattle.power_cut.proofs.Standing.{Standing, entries-two, standing-map-bytes, front-bytes, front-size, regroup}
 

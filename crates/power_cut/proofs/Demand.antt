@@ -20,10 +20,10 @@ use Rattle.sector.specs.Header.{stateOfWord}
 use Rattle.sector.specs.Layout.{entryAddress, entryAt}
 use Rattle.sector.proofs.Marks.{within-mapUnits}
 use Rattle.erase.specs.Erase.{eraseChecks, erasePlan, erase, eraseImage}
-use Rattle.opening.specs.Reading.{Item, item}
+use Rattle.reading.specs.Reading.{Item, item}
 use Rattle.opening.specs.Opening.{headerVerdictOf, keptItems, openingPlan, opening, openingImage}
 use Rattle.opening.specs.declared.HeaderVerdict.the-variants.{Blank}
-use Rattle.opening.proofs.KeptItem.{member-split}
+use Rattle.reopening.proofs.KeptItem.{member-split}
 use Rattle.power_cut.specs.History.{Sector, Write, outcomeOf, imageOf, entriesOfWrite, entryUnits, newItem, withoutItem, History, opened, written, erased}
 use Rattle.power_cut.specs.PowerCut.{FindsWhatWasPut, Begins, AbsentOrWhole, SetsNoBit, AltersNothingElse, ErasesMarksAlone}
 use Rattle.power_cut.proofs.Standing.{Standing, standing-size, standing-kept, standing-plan}

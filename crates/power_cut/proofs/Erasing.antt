@@ -25,10 +25,10 @@ use Rattle.sector.specs.Layout.{chunks, namespaceOf}
 use Rattle.sector.specs.Map.{statesOf, markRange, mapUnits, countIn, sameState}
 use Rattle.sector.proofs.Laws.{length-markRange}
 use Rattle.sector.proofs.Marks.{marked, marked-inside, length-marked, countIn-erased, statesOf-markRange, run-mapUnits}
-use Rattle.opening.specs.Reading.{Item, item, keptFrom}
+use Rattle.reading.specs.Reading.{Item, item, keptFrom}
 use Rattle.opening.specs.Opening.{headerOf, listedItems}
-use Rattle.opening.proofs.Verdicts.{States, Entries}
-use Rattle.opening.proofs.KeptItem.{Place, place, closed-erase, kept-erase, place-fits, Indices, indices-nil, indices-cons, indices-before, indices-after, member-split}
+use Rattle.reading.proofs.Verdicts.{States, Entries}
+use Rattle.reopening.proofs.KeptItem.{Place, place, closed-erase, kept-erase, place-fits, Indices, indices-nil, indices-cons, indices-before, indices-after, member-split}
 use Rattle.power_cut.specs.History.{withoutItem}
 use Rattle.power_cut.proofs.Standing.{Standing, standing-map-bytes}
 use Rattle.power_cut.proofs.AtHand.{pageOf}

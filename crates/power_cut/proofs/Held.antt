@@ -23,11 +23,11 @@ use Rattle.sector.specs.Header.{stateOfWord, headerCrc}
 use Rattle.sector.specs.Layout.{stateWord, versionOf, storedHeaderCrc, mapOf, entriesOf}
 use Rattle.sector.specs.Map.{statesOf}
 use Rattle.sector.proofs.Marks.{image-parts, mapOf-parts}
-use Rattle.opening.specs.Reading.{Item, item, keptFrom}
+use Rattle.reading.specs.Reading.{Item, item, keptFrom}
 use Rattle.opening.specs.Opening.{isOpenState, headerVerdictOf, keptItems, openedMap, openingPlan, openedPage, answerFor, planFor, opening, openingImage}
 use Rattle.opening.specs.declared.HeaderVerdict.{HeaderVerdict}
 use Rattle.opening.specs.declared.HeaderVerdict.the-variants.{Blank, Opens, WrongPageState, WrongVersion, WrongHeaderCrc}
-use Rattle.opening.proofs.Cuts.{keptFrom-empties}
+use Rattle.reopening.proofs.Cuts.{keptFrom-empties}
 use Rattle.power_cut.specs.History.{Sector}
 use Rattle.power_cut.proofs.Standing.{Standing, standing-map, standing-kept, standing-plan}
 use Rattle.power_cut.proofs.OpenedPage.{run-opening, opened-size, opened-standing}

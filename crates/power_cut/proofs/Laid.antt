@@ -19,22 +19,22 @@ use Rattle.crc.specs.Crc.{crc32}
 use Rattle.sector.specs.Item.{crcStart, itemBytes, sizedData}
 use Rattle.sector.specs.Layout.{entryAddress, entryAt, chunks, entriesOf, mapOf, spanOf, littleEndian}
 use Rattle.sector.specs.Map.{statesOf}
-use Rattle.sector.proofs.Laws.{length-statesOf}
+use Rattle.sector.proofs.Laws.{length-statesOf, length-entriesOf, length-chunks}
 use Rattle.sector.specs.Types.{itemType, hasPayload}
 use Rattle.append.specs.declared.Single.{Single}
 use Rattle.append.specs.declared.Variable.{Variable}
 use Rattle.append.specs.Append.{isSingle, singleBytes, spanFor, variableHeader}
 use Rattle.copy.specs.Copy.{copiedBytes}
 use Rattle.opening.specs.Opening.{keptItems}
-use Rattle.opening.specs.Reading.{Item}
-use Rattle.opening.proofs.Verdicts.{Entries, Whole, whole-span}
+use Rattle.reading.specs.Reading.{Item}
+use Rattle.reading.proofs.Verdicts.{Entries, Whole, whole-span}
 use Rattle.power_cut.specs.History.{allBytes, SingleRequest, VariableRequest, KeptIn, payloadEntries}
 use Rattle.power_cut.proofs.Standing.{Standing, front-bytes, front-size, regroup, blank-parts}
-use Rattle.opening.proofs.Entries.{length-entries, length-chunks, take-chunks, drop-chunks}
+use Rattle.reading.proofs.Entries.{take-chunks, drop-chunks}
 use Rattle.power_cut.proofs.Chunks.{chunks-take}
 use Rattle.power_cut.proofs.NewItem.{single-whole, variable-whole}
 use Rattle.power_cut.proofs.Begun.{Lays}
-use Rattle.opening.proofs.KeptItem.{WholeAt, kept-whole}
+use Rattle.reopening.proofs.KeptItem.{WholeAt, kept-whole}
 
 -- ---- bytes
 
@@ -206,7 +206,7 @@ module _ {image : List ℕ} {items : List Item} (p : Standing image items) where
     pub place : WholeAt index entries (entriesOf source)
     unfolding keptItems
     place =
-        kept-whole (statesOf (mapOf source)) (entriesOf source) (length-statesOf (mapOf source) source-map ∙ sym (length-entries source)) (kept .kept)
+        kept-whole (statesOf (mapOf source)) (entriesOf source) (length-statesOf (mapOf source) source-map ∙ sym (length-entriesOf source)) (kept .kept)
 
     abbrev bytes-there : List ℕ
     bytes-there = drop (entryAddress index) source
@@ -218,7 +218,7 @@ module _ {image : List ℕ} {items : List Item} (p : Standing image items) where
     group-long = ap length (place .header-first)
 
     inside : index + count ≤ 126
-    inside = omega (arith, place .fits, group-long, length-entries source)
+    inside = omega (arith, place .fits, group-long, length-entriesOf source)
 
     there-is : chunks count bytes-there ≡ place .header ∷ place .new
     there-is =

@@ -1,5 +1,3 @@
-mod Edges
-mod Example
 pub mod Chunks
 pub mod NewItem
 pub mod Standing

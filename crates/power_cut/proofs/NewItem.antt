@@ -21,14 +21,14 @@ use Rattle.sector.specs.declared.ItemType.the-variants.{U8, I8, U16, I16, U32, 
 use Rattle.sector.specs.Item.{crcStart, itemCrc, crcRight, itemBytes, sizedData}
 use Rattle.sector.specs.Layout.{littleEndian, number, storedCrc, sizeOf, storedPayloadCrc, spanOf}
 use Rattle.sector.specs.Types.{byteOf, knownTypes, typeAmong, itemType, typeByte, hasPayload, sanitized}
-use Rattle.sector.proofs.Laws.{number-littleEndian}
+use Rattle.sector.proofs.Laws.{number-littleEndian, length-chunks}
 use Rattle.append.specs.declared.Single.{Single}
 use Rattle.append.specs.declared.Variable.{Variable}
 use Rattle.append.specs.Append.{isSingle, singleBytes, spanFor, variableHeader}
-use Rattle.opening.specs.Reading.{firstRule, isPayload, covered, spanOffPage, wrongSpan, headerRefusal, joined, sizeTooBig, payloadCrcWrong, payloadRefusal}
-use Rattle.opening.proofs.Verdicts.{Entries, Whole}
+use Rattle.reading.specs.Reading.{firstRule, isPayload, covered, spanOffPage, wrongSpan, headerRefusal, joined, sizeTooBig, payloadCrcWrong, payloadRefusal}
+use Rattle.reading.proofs.Verdicts.{Entries, Whole}
 use Rattle.power_cut.specs.History.{SingleRequest, VariableRequest, payloadEntries}
-use Rattle.opening.proofs.Entries.{length-chunks, joined-chunks}
+use Rattle.reading.proofs.Entries.{joined-chunks}
 
 -- ---- types with a byte of their own
 

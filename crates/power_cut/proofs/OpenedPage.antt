@@ -16,17 +16,17 @@ use Rattle.sector.specs.declared.EntryMapState.{EntryMapState}
 use Rattle.sector.specs.declared.EntryMapState.the-variants.{Empty}
 use Rattle.sector.specs.Layout.{chunks, entriesOf, mapOf}
 use Rattle.sector.specs.Map.{unpack, pack, statesOf}
-use Rattle.sector.proofs.Laws.{length-statesOf, length-unpack}
+use Rattle.sector.proofs.Laws.{length-statesOf, length-unpack, length-chunks}
 use Rattle.sector.proofs.Marks.{states-refl, states-append, clears-pack, pack-unpack, unpack-pack, length-pack, bytes-pack, image-parts, mapOf-parts, entries-parts}
-use Rattle.opening.specs.Reading.{Item, keptFrom, openedStates}
-use Rattle.opening.specs.Opening.{keptItems, openedMap, firstMap, changedUnits, openingPlan}
-use Rattle.opening.proofs.Verdicts.{States, Entries}
-use Rattle.opening.proofs.Closed.{Closed, length-closed}
-use Rattle.opening.proofs.Reopened.{length-openedStates, kept-openedStates}
-use Rattle.opening.proofs.TwoPasses.{clears-firstStates, clears-secondPass}
-use Rattle.opening.proofs.OpenedFront.{Opened, opened}
-use Rattle.opening.proofs.Cuts.{kept-unmarked}
-use Rattle.opening.proofs.Entries.{length-chunks}
+use Rattle.reading.specs.Reading.{Item, keptFrom, openedStates}
+use Rattle.marks.specs.Marks.{changedUnits}
+use Rattle.opening.specs.Opening.{keptItems, openedMap, firstMap, openingPlan}
+use Rattle.reading.proofs.Verdicts.{States, Entries}
+use Rattle.reopening.proofs.Closed.{Closed, length-closed}
+use Rattle.reopening.proofs.Reopened.{length-openedStates, kept-openedStates}
+use Rattle.reopening.proofs.TwoPasses.{clears-firstStates, clears-secondPass}
+use Rattle.reopening.proofs.OpenedFront.{Opened, opened}
+use Rattle.reopening.proofs.Cuts.{kept-unmarked}
 use Rattle.power_cut.proofs.Chunks.{chunks-append, suc-entries}
 use Rattle.power_cut.proofs.MapUnits.{splice-all, run-changed}
 use Rattle.power_cut.proofs.Standing.{Standing}

@@ -22,13 +22,14 @@ use Rattle.sector.specs.Map.{statesOf, unpack, pack}
 use Rattle.sector.specs.declared.EntryMapState.{EntryMapState}
 use Rattle.sector.proofs.Laws.{length-statesOf, length-unpack}
 use Rattle.sector.proofs.Marks.{StatesClear, states-nil, states-cons, image-parts, mapOf-parts, entries-parts, unpack-pack, unpack-splice}
-use Rattle.opening.specs.Reading.{Item, keptFrom, openedStates}
-use Rattle.opening.specs.Opening.{headerVerdictOf, keptItems, openedMap, firstMap, changedUnits, openingPlan, openedPage, opening, openingImage, planFor}
+use Rattle.reading.specs.Reading.{Item, keptFrom, openedStates}
+use Rattle.marks.specs.Marks.{changedUnits}
+use Rattle.opening.specs.Opening.{headerVerdictOf, keptItems, openedMap, firstMap, openingPlan, openedPage, opening, openingImage, planFor}
 use Rattle.opening.specs.declared.HeaderVerdict.{HeaderVerdict}
 use Rattle.opening.specs.declared.HeaderVerdict.the-variants.{Blank, Opens, WrongPageState, WrongVersion, WrongHeaderCrc}
-use Rattle.opening.proofs.Reopened.{length-openedStates}
-use Rattle.opening.proofs.Verdicts.{States, Entries}
-use Rattle.opening.proofs.TwoPasses.{the-old, the-new, Mix, mix-nil, mix-cons, mix-take, firstStates, clears-firstStates, CutOpening, in-first, in-second, openedStates-cut, keptFrom-cut}
+use Rattle.reopening.proofs.Reopened.{length-openedStates}
+use Rattle.reading.proofs.Verdicts.{States, Entries}
+use Rattle.reopening.proofs.TwoPasses.{the-old, the-new, Mix, mix-nil, mix-cons, mix-take, firstStates, clears-firstStates, CutOpening, in-first, in-second, openedStates-cut, keptFrom-cut}
 use Rattle.power_cut.specs.History.{Sector}
 use Rattle.power_cut.specs.PowerCut.{OpeningCut}
 use Rattle.power_cut.proofs.MapUnits.{splice, splice-all, Reached, reached, run-changed}

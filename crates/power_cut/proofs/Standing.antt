@@ -18,13 +18,14 @@ use Rattle.sector.specs.declared.EntryMapState.the-variants.{Empty, Written, Er
 use Rattle.sector.specs.Layout.{entryAddress, chunks, entriesOf, mapOf}
 use Rattle.sector.specs.Map.{unpack, pack, statesOf}
 use Rattle.sector.proofs.Marks.{mapOf-parts, entries-parts, pack-unpack}
-use Rattle.opening.specs.Reading.{Item, keptFrom, openedStates}
-use Rattle.opening.specs.Opening.{keptItems, openedMap, refusedHeaders, firstPass, firstMap, sameBytes, mapUnit, changedUnits, openingPlan}
-use Rattle.opening.proofs.Verdicts.{States, Entries}
-use Rattle.opening.proofs.Closed.{Closed}
-use Rattle.opening.proofs.TwoPasses.{firstPass-same}
-use Rattle.opening.proofs.Cuts.{kept-unmarked, openedStates-unmarked-blank}
-use Rattle.opening.proofs.Entries.{length-chunks}
+use Rattle.reading.specs.Reading.{Item, keptFrom, openedStates}
+use Rattle.marks.specs.Marks.{firstPass, sameBytes, mapUnit, changedUnits}
+use Rattle.opening.specs.Opening.{keptItems, openedMap, refusedHeaders, firstMap, openingPlan}
+use Rattle.reading.proofs.Verdicts.{States, Entries}
+use Rattle.reopening.proofs.Closed.{Closed}
+use Rattle.reopening.proofs.TwoPasses.{firstPass-same}
+use Rattle.reopening.proofs.Cuts.{kept-unmarked, openedStates-unmarked-blank}
+use Rattle.sector.proofs.Laws.{length-chunks}
 use Rattle.power_cut.proofs.Chunks.{chunks-append, suc-entries}
 
 -- ---- the page

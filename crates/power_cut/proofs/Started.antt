@@ -32,15 +32,15 @@ use Rattle.append.specs.declared.Single.{Single}
 use Rattle.append.specs.declared.Variable.{Variable}
 use Rattle.append.specs.Append.{isSingle, singleRequest, singleChecks, singleBytes, singlePlan, withSingle, appendSingle, appendSingleImage, spanFor, variableRequest, variableChecks, variableHeader, variablePlan, withVariable, appendVariable, appendVariableImage}
 use Rattle.copy.specs.Copy.{copyChecks, copiedBytes, copyPlan, withCopy, copyIn, copyInImage}
-use Rattle.opening.specs.Reading.{Item, item}
+use Rattle.reading.specs.Reading.{Item, item}
 use Rattle.opening.specs.Opening.{listedItems}
-use Rattle.opening.proofs.Verdicts.{States, Entries}
-use Rattle.opening.proofs.Closed.{Closed}
-use Rattle.opening.proofs.KeptItem.{WholeAt}
-use Rattle.opening.proofs.OpenedFront.{Opened, count-opened}
+use Rattle.reading.proofs.Verdicts.{States, Entries}
+use Rattle.reopening.proofs.Closed.{Closed}
+use Rattle.reopening.proofs.KeptItem.{WholeAt}
+use Rattle.reopening.proofs.OpenedFront.{Opened, count-opened}
 use Rattle.power_cut.specs.History.{SingleRequest, VariableRequest, KeptIn, Write, a-single, a-variable, a-copy, outcomeOf, imageOf, entriesOfWrite, entryUnits, payloadEntries}
 use Rattle.power_cut.specs.PowerCut.{Begins}
-use Rattle.opening.proofs.Entries.{length-chunks}
+use Rattle.sector.proofs.Laws.{length-chunks}
 use Rattle.power_cut.proofs.Standing.{Standing}
 use Rattle.power_cut.proofs.Begun.{Lays}
 use Rattle.power_cut.proofs.Laid.{lays-single, lays-variable, place, copied-span, entry-is, lays-copy}

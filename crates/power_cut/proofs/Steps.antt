@@ -26,7 +26,7 @@ use Rattle.sector.specs.Header.{stateOfWord, stateBytes}
 use Rattle.sector.specs.Layout.{stateWord}
 use Rattle.append.specs.Append.{singleRequest, singleChecks, singlePlan, withSingle, appendSingle, variableChecks, variablePlan, withVariable, appendVariable}
 use Rattle.copy.specs.Copy.{copyChecks, copyPlan, withCopy, copyIn}
-use Rattle.opening.specs.Reading.{Item, item}
+use Rattle.reading.specs.Reading.{Item, item}
 use Rattle.opening.specs.Opening.{headerVerdictOf, keptItems, opening}
 use Rattle.power_cut.specs.History.{Write, a-single, a-variable, a-copy, outcomeOf, imageOf, entriesOfWrite, entryUnits, newItem}
 use Rattle.power_cut.specs.PowerCut.{Begins}

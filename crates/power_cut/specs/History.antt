@@ -21,7 +21,7 @@ use Rattle.append.specs.declared.Variable.{Variable}
 use Rattle.append.specs.Append.{appendSingle, appendSingleImage, singleBytes, appendVariable, appendVariableImage, variableHeader, spanFor}
 use Rattle.copy.specs.Copy.{copyIn, copyInImage, copiedBytes}
 use Rattle.erase.specs.Erase.{erase, eraseImage}
-use Rattle.opening.specs.Reading.{Item, item}
+use Rattle.reading.specs.Reading.{Item, item}
 use Rattle.opening.specs.Opening.{opening, openingImage, keptItems}
 
 -- ---- what a caller can hand in

@@ -1,3 +1,2 @@
 pub mod History
 pub mod PowerCut
-pub mod Edges

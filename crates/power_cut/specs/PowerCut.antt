@@ -22,7 +22,7 @@ use Rattle.sector.specs.declared.Answer.the-variants.{Done, CorruptedData, Stop
 use Rattle.sector.specs.Layout.{sectorSize, entriesPerPage, entryAt}
 use Rattle.header.specs.Calls.{initialiseImage, initialisePlan}
 use Rattle.erase.specs.Erase.{erase, eraseImage}
-use Rattle.opening.specs.Reading.{Item, item}
+use Rattle.reading.specs.Reading.{Item, item}
 use Rattle.opening.specs.Opening.{headerVerdictOf, keptItems, planFor, opening, openingImage}
 use Rattle.power_cut.specs.History.{Sector, Write, outcomeOf, imageOf, entriesOfWrite, entryUnits, newItem, withoutItem, History}
 

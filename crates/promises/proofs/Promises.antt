@@ -27,7 +27,7 @@ use Rattle.sector.specs.Layout.{entryAt, spanOf}
 use Rattle.header.specs.Calls.{initialiseChecks, initialisePlan, initialised, initialise}
 use Rattle.append.specs.Append.{singleChecks, variableChecks, singlePlan, withSingle, spanFor, variablePlan, withVariable, appendSingle, appendVariable}
 use Rattle.copy.specs.Copy.{copyChecks, copyPlan, withCopy, copyIn}
-use Rattle.erase.specs.Purge.{purgePlan, purge, purgeImage}
+use Rattle.purge.specs.Purge.{purgePlan, purge, purgeImage}
 use Rattle.promises.specs.Promises.{single, variable, copied, initialising, markingFull, putting, erasing, purging, checksOf, planOf, newOf, PlainFromTotal, StoppedLeavesFirst, StopsBelowTotal, isRefusal, RefusedChangesNothing, RefusedPurgesNothing, earlierChecks, PageFullExactly, SetsNoBit, OnlyClearsBits, PurgeOnlyClearsBits, writesOf, AltersNothingElse}
 use Rattle.promises.proofs.Order.{writes-in-order, outside-joined, getD-after}
 use Rattle.promises.proofs.Answers.{checks-refuse, accepted-append, copied-span, stopped-only, refusal-only, told}

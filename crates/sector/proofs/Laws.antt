@@ -1,19 +1,19 @@
--- Laws of the sector's definitions, in the order of specs/: Layout, then Map; and bytes laid over others.
+-- Laws of the sector's definitions, in the order of specs/: Layout, then Map; between them, bytes laid over others and copied.
 -- Not here: what a run of marks does to each state (Marks).
 -- Assumes nothing.
 use mathlib.Core.Path.{_≡_, refl, sym, ap, _∙_}
 use mathlib.Core.Bool.{cond}
 use mathlib.Core.List.{List, [], _∷_, _++_, append-nil}
 use Prim.Native.Nat.{ℕ, zero, suc, _+_, _*_, _/_, _%_, _^_, _<_, _≤_}
-use native.Mathlib.Nat.{div-one, div-lt-iff-lt-mul, pow-suc, pow-succ'}
+use native.Mathlib.Nat.{zero-add, le-of-suc-le-suc, not-suc-le-zero, div-one, div-lt-iff-lt-mul, pow-suc, pow-succ'}
 use native.Mathlib.Numerals.{add-one}
 use native.Mathlib.Omega.{arith}
-use lib.ListN.{length, getD, take, drop, length-append, length-take, length-drop, length-set, drop-of-length-le}
+use lib.ListN.{length, getD, set, take, drop, length-append, length-take, length-drop, length-set, drop-of-length-le}
 use lib.Pow.{pow-add}
-use lib.Seq.{drop-cons, take-at, getD-take}
+use lib.Seq.{drop-cons, drop-drop, take-at, getD-take, paste-suc}
 use Rattle.sector.specs.declared.EntryMapState.{EntryMapState}
 use Rattle.sector.specs.declared.EntryMapState.the-variants.{Empty, Written, Erased, Illegal}
-use Rattle.sector.specs.Layout.{number, littleEndian, field}
+use Rattle.sector.specs.Layout.{entriesPerPage, entrySize, itemsOffset, number, littleEndian, field, entryAt, chunks, entriesOf}
 use Rattle.sector.specs.Map.{bitsOf, stateAt, unpack, statesOf, sameState, countIn, statistics, mark, markRange}
 
 -- ---- little-endian numbers
@@ -33,7 +33,30 @@ pub field-cons : (offset n : ℕ) (bytes : List ℕ) → offset < length bytes
     → field offset (suc n) bytes ≡ getD bytes offset 0 ∷ field (offset + 1) n bytes
 field-cons offset n bytes h = rw (drop-cons bytes offset 0 h, add-one offset)
 
--- ---- bytes laid over others, as `bytes::put` leaves them
+-- ---- the entries of an image
+
+pub length-chunks : (n : ℕ) (bytes : List ℕ) → length (chunks n bytes) ≡ n
+unfolding chunks
+length-chunks zero bytes = refl
+length-chunks (suc n) bytes = ap suc (length-chunks n (drop entrySize bytes))
+
+pub getD-chunks : (n i : ℕ) (bytes : List ℕ) → i < n → getD (chunks n bytes) i [] ≡ take entrySize (drop (entrySize * i) bytes)
+unfolding chunks
+getD-chunks zero i bytes h = absurd (not-suc-le-zero h)
+getD-chunks (suc n) zero bytes h = refl
+getD-chunks (suc n) (suc i) bytes h =
+    let next : entrySize + entrySize * i ≡ entrySize * suc i = omega arith in
+    getD-chunks n i (drop entrySize bytes) (le-of-suc-le-suc h)
+    ∙ ap (take entrySize) (drop-drop (entrySize * i) entrySize bytes ∙ ap (λ (offset : ℕ). drop offset bytes) next)
+
+pub length-entriesOf : (image : List ℕ) → length (entriesOf image) ≡ entriesPerPage
+length-entriesOf image = length-chunks entriesPerPage (drop itemsOffset image)
+
+pub getD-entriesOf : (image : List ℕ) (i : ℕ) → i < entriesPerPage → getD (entriesOf image) i [] ≡ entryAt image i
+getD-entriesOf image i h =
+    getD-chunks entriesPerPage i (drop itemsOffset image) h ∙ ap (take entrySize) (drop-drop (entrySize * i) itemsOffset image)
+
+-- ---- bytes laid over others, as `bytes::put` leaves them; bytes copied one at a time
 
 abbrev pub over : List ℕ → ℕ → List ℕ → List ℕ
 over out offset bytes = take offset out ++ (bytes ++ drop (offset + length bytes) out)
@@ -45,6 +68,13 @@ over-both out first second n e h =
     let rest = drop (0 + length first) out in
     let fits : length (first ++ rest) ≤ n + length second = simp (length-append, length-drop) (omega arith) in
     rw (take-at first rest n e, drop-of-length-le (first ++ rest) fits, append-nil second)
+
+-- k bytes of a part are in, and the next one is stored
+pub copied-next : (part into : List ℕ) (k : ℕ) → k < length part → k < length into
+    → set (take k part ++ drop k into) k (getD part k 0) ≡ take (k + 1) part ++ drop (k + 1) into
+copied-next part into k inside room =
+    let place : 0 + k < length into = omega arith in
+    rw (add-one k) (rw (zero-add k, zero-add (suc k)) at (paste-suc into 0 part k 0 place inside))
 
 -- ---- states
 

@@ -1,10 +1,10 @@
-// The sector's layout (raw.rs): page states, the entry map, item types, CRCs and the hash.
+// The sector's layout (raw.rs): its types, what a call answers, and bytes at offsets.
+//
+// The definitions of all of it are in specs/. The functions of the header, of the map, of the item types and of items are
+// the crates `page_header`, `map`, `types`, `item` and `hash`.
 
+pub mod answers;
 pub mod bytes;
-pub mod header;
-pub mod item;
-pub mod map;
-pub mod types;
 
 pub const ENTRIES_PER_PAGE: usize = 126;
 

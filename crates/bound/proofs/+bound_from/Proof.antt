@@ -12,13 +12,13 @@ use Rattle.sector.specs.declared.EntryMapState.{EntryMapState}
 use Rattle.sector.specs.declared.EntryMapState.the-variants.{Empty, Written}
 use Rattle.sector.specs.Map.{statesOf, sameState}
 use Rattle.sector.proofs.Laws.{length-statesOf, getD-statesOf}
-use Rattle.sector.proofs.map.state_at.Reads as state-at-reads
+use Rattle.map.proofs.state_at.Reads as state-at-reads
 use Rattle.bound.specs.Bound.{boundFrom}
 use Rattle.bound.proofs.Laws.{bound-other, bound-written, counted-le, bound-le}
 use Rattle.bound.proofs.bound_from.Reads as bound-from
 use Rattle.bound.proofs.bound_from.Kinds as bound-from-kinds
 use Rattle.bound.proofs.count_of.Reads as count-of-reads
-use Rattle.bound.proofs.is_written.Reads as is-written-reads
+use Rattle.map.proofs.is_written.Reads as is-written-reads
 use Rattle.bound.proofs.passed_behind.Reads as passed-behind-reads
 use Rattle.bound.proofs.+bound_from.Lts-bound_from as lts
 use Rattle.bound.proofs.+bound_from.{statement}

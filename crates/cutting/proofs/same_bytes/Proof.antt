@@ -4,7 +4,7 @@ use Prim.Native.Nat.{_≤_, _-_}
 use native.Mathlib.Omega.{arith}
 use borrow.Author.Needs.{needs}
 use lib.ListN.{length, drop}
-use Rattle.opening.specs.Opening.{sameBytes}
+use Rattle.marks.specs.Marks.{sameBytes}
 use Rattle.cutting.proofs.Laws.{same-bytes-length, same-bytes-pass, same-bytes-differ, same-bytes-end}
 use Rattle.cutting.proofs.same_bytes.Statement.{statement}
 use Rattle.cutting.proofs.same_bytes.Tie as tie

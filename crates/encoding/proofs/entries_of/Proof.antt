@@ -6,7 +6,8 @@ use native.Mathlib.Omega.{arith}
 use borrow.Author.Needs.{needs}
 use lib.ListN.{length, take, drop, length-set}
 use Rattle.sector.specs.Layout.{chunks}
-use Rattle.encoding.proofs.Laws.{made-next, made-whole, length-chunks, getD-chunks}
+use Rattle.sector.proofs.Laws.{length-chunks, getD-chunks}
+use Rattle.encoding.proofs.Laws.{made-next, made-whole}
 use Rattle.encoding.proofs.entries_of.Statement.{statement}
 use Rattle.encoding.proofs.entries_of.Tie as tie
 

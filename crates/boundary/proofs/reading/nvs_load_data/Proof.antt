@@ -3,8 +3,8 @@ use mathlib.Core.Path.{refl, ap, _∙_}
 use mathlib.Core.List.{List}
 use lib.ListN.{length}
 use borrow.Author.Needs.{needs}
-use Rattle.load.specs.declared.DataLoaded.{DataLoaded}
-use Rattle.load.specs.Load.{dataAnswer, dataOutput}
+use Rattle.payload.specs.declared.DataLoaded.{DataLoaded}
+use Rattle.payload.specs.Payload.{dataAnswer, dataOutput}
 use Rattle.sector.specs.Answers.{numberOf, carriedByte}
 use Rattle.encoding.specs.Encoding.{answerBytes, zeroItem, noCounts}
 use Rattle.boundary.specs.Boundary.{badAnswer, dataGiven, dataLeft}

@@ -3,7 +3,7 @@ use mathlib.Core.Path.{ap, ap₂, _∙_}
 use mathlib.Core.Bool.{_||_}
 use mathlib.Core.List.{List}
 use borrow.Author.Needs.{needs}
-use Rattle.erase.specs.Purge.{purgeNamespace, purgeNamespaceImage}
+use Rattle.purge.specs.Purge.{purgeNamespace, purgeNamespaceImage}
 use Rattle.page.specs.declared.ThinPage.{ThinPage}
 use Rattle.encoding.specs.Encoding.{recordOf, wrongSize}
 use Rattle.boundary.specs.Boundary.{badRecordSize, badKey, purgeNamespaceLeft}

@@ -11,8 +11,8 @@ array-read-if1 c = search needs
 returns : tie.Need-returns
 returns c = rw (eq-eqb (namespaceOf (c .before .args .t2)) 0 (c .if1 .taken))
 
-hash-of-requires : tie.Need-hash-of-requires
-hash-of-requires c κs = search needs
+hash-of-item-requires : tie.Need-hash-of-item-requires
+hash-of-item-requires c κs = search needs
 
 cast-t10 : tie.Need-cast-t10
 cast-t10 c = search needs
@@ -32,7 +32,7 @@ add-t10 c = search needs
 returns-2 : tie.Need-returns-2
 returns-2 c =
     let hashed = c .before in
-    rw (ne-eqb (namespaceOf (hashed .before .before .args .t2)) 0 (hashed .before .if1 .left), hashed .hash-of .ensures)
+    rw (ne-eqb (namespaceOf (hashed .before .before .args .t2)) 0 (hashed .before .if1 .left), hashed .hash-of-item .ensures)
 
 pub with-item-spec : {M : Type 1} → statement M
 with-item-spec =
@@ -40,7 +40,7 @@ with-item-spec =
     (tie.spec
     array-read-if1
     returns
-    hash-of-requires
+    hash-of-item-requires
     cast-t10
     cast-list
     mul-list

@@ -1,0 +1,3 @@
+pub mod Arrays
+pub mod FreeTail
+pub mod Passes

@@ -1,0 +1,2 @@
+mod Edges
+mod Example

@@ -1,0 +1,14 @@
+-- `write::is_done` meets its contract: it compares the answer's number.
+-- Assumes nothing.
+use borrow.Author.Needs.{needs}
+use Rattle.write.proofs.is_done.Statement.{statement}
+use Rattle.write.proofs.is_done.Tie as tie
+
+number-of-requires : tie.Need-number-of-requires
+number-of-requires c κs = search needs
+
+returns : tie.Need-returns
+returns c = cc
+
+pub is-done-spec : {M : Type 1} → statement M
+is-done-spec = tie.close (tie.spec number-of-requires returns)
