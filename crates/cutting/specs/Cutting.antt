@@ -1,10 +1,11 @@
 -- Power cuts, run (01, 'Programming', 'Opening'): an append stopped after n units, the page opened, and what was found.
 --
--- In order: the append; the cut; the two sectors that a cut may leave, by their items and bytes; what was found.
+-- In order: the append; the cut; how many units there are; the two sectors that a cut may leave, by their items and bytes; what was
+-- found; runs of cuts that are found alike; bytes for an item.
 -- Assumes nothing.
 use mathlib.Core.Bool.{Bool, true, false, _&&_, cond}
-use mathlib.Core.List.{List, [], _∷_}
-use Prim.Native.Nat.{ℕ, _*_}
+use mathlib.Core.List.{List, [], _∷_, _++_}
+use Prim.Native.Nat.{ℕ, zero, suc, _+_, _-_, _*_, _%_}
 use lib.Dec.{eqb, leb}
 use lib.ListN.{length}
 use Rattle.append.specs.declared.Single.{Single}
@@ -83,6 +84,22 @@ finishedBy before request payload =
           };
     }
 
+-- ---- the units
+
+-- the first number from n on at which a test fails; n + more where it holds for so many
+unfoldable pub firstNot : (ℕ → Bool) → ℕ → ℕ → ℕ
+firstNot test n zero = n
+firstNot test n (suc more) = cond (test n) (firstNot test (n + 1) more) n
+
+-- the append stopped after n units answers Stopped
+abbrev pub isStopped : Sector → Request → List ℕ → ℕ → Bool
+isStopped before request payload n =
+    eqb (numberOf (appended (before .image) (before .page) request payload n .answer)) 11
+
+-- the first n at which the append is not stopped; 0 where it is refused
+abbrev pub unitCount : Sector → Request → List ℕ → ℕ
+unitCount before request payload = firstNot (isStopped before request payload) 0 most
+
 -- ---- two sectors
 
 -- the same hash and the same index
@@ -131,3 +148,19 @@ sameFound Whole Otherwise = false
 sameFound Otherwise Absent = false
 sameFound Otherwise Whole = false
 sameFound Otherwise Otherwise = true
+
+-- ---- runs of cuts
+
+-- the last cut from `first` to `last` up to which all are found as the first is; `first` where it is over `last`
+abbrev pub lastAlike : Sector → Sector → Request → List ℕ → ℕ → ℕ → ℕ
+lastAlike before after request payload first last =
+    firstNot
+    (λ n. sameFound (foundAfter before after request payload first) (foundAfter before after request payload (n + 1)))
+    first (last - first)
+
+-- ---- bytes for an item
+
+-- 0, 1 and so on, and after 250 from 0 again
+unfoldable pub curve : ℕ → List ℕ
+curve zero = []
+curve (suc n) = curve n ++ (n % 251 ∷ [])
