@@ -3,7 +3,7 @@
 use mathlib.Core.Path.{_≡_, refl}
 use mathlib.Core.Bool.{true, false}
 use mathlib.Core.List.{[], _∷_}
-use lib.ListN.{length, replicate}
+use lib.ListN.{replicate}
 use Rattle.request.specs.Words.{number, noNumber, digitsFrom, numberOf, isKey, orNamed, typeOf, valueBytes}
 
 -- 255, 256, nothing

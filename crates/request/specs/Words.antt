@@ -12,7 +12,6 @@ use Rattle.opening.specs.Opening.{sameBytes}
 use Rattle.sector.specs.declared.ItemType.the-variants.{U8, I8, U16, I16, U32, I32, U64, I64, Sized, Blob, BlobData, BlobIndex, Any}
 use Rattle.sector.specs.Layout.{littleEndian}
 use Rattle.sector.specs.Types.{byteOf, kindOf}
-use Rattle.cutting.specs.declared.Request.{Request}
 use Rattle.request.specs.declared.Number.{Number}
 use Rattle.request.specs.declared.Parsed.{Parsed}
 use Rattle.request.specs.declared.Wrong.{Wrong}

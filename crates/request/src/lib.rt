@@ -1,8 +1,6 @@
 // A request in words: the namespace, the type, the key and the value of an item to append.
 ghost use mathlib.Core.Path.{_≡_};
-ghost use mathlib.Core.List.{[], _∷_};
-ghost use Prim.Native.Nat.{_<_, _≤_};
-ghost use lib.ListN.{length};
+ghost use Prim.Native.Nat.{_<_};
 ghost use Rattle.sector.specs.Layout.{littleEndian};
 ghost use Rattle.request.specs.Words.{noNumber, digitOf, digitsOf, isHex, numberOf, isKey, keyBytes, orNamed, typeOf, valueWidth, mostOf, valueOf, valueBytes, refusedFor, parsed};
 use cutting::Request;

@@ -10,7 +10,7 @@ use Rattle.sector.specs.Types.{kindOf}
 use Rattle.request.specs.declared.Number.{Number}
 use Rattle.request.specs.declared.Parsed.{Parsed}
 use Rattle.request.specs.declared.Wrong.the-variants.{Nothing, BadNamespace, BadType, BadKey, BadValue}
-use Rattle.request.specs.Words.{noNumber, numberOf, isKey, keyBytes, typeOf, valueWidth, valueOf, valueBytes, refusedFor, decided}
+use Rattle.request.specs.Words.{noNumber, isKey, keyBytes, typeOf, valueWidth, valueOf, valueBytes, refusedFor, decided}
 use Rattle.request.proofs.Laws.{numberOf-most, typeOf-most}
 use Rattle.request.proofs.request_of.Statement.{statement}
 use Rattle.request.proofs.request_of.Tie as tie
