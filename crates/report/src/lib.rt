@@ -70,10 +70,21 @@ pub fn print_words(image: &[u8], namespace: &[u8], kind: &[u8], key: &[u8], valu
     print_page(image, key, value, asked, sector);
 }
 
+// Whether an argument has at most 4,096 bytes.
+fn is_whole(place: usize) -> bool {
+    let mut word = io::buffer();
+    os::arg(place, &mut word);
+    os::errno() == 0
+}
+
 // `print_words` of the program's arguments.
 pub fn print_arguments() {
     if os::arg_count() != 6 {
         words::usage();
+        return;
+    }
+    if !(is_whole(1) && is_whole(2) && is_whole(3) && is_whole(4) && is_whole(5)) {
+        words::too_long();
         return;
     }
     let mut image = io::buffer();

@@ -21,6 +21,10 @@ pub(crate) fn usage() {
     text(b"or for Sized, Blob and BlobData the file of the data\n");
 }
 
+pub(crate) fn too_long() {
+    text(b"cuts: an argument has more than 4,096 bytes\n");
+}
+
 fn bad_number(what: &[u8], given: &[u8], most: u64) {
     text(b"cuts: ");
     text(what);
