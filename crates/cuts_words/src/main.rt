@@ -6,11 +6,6 @@ fn in_namespace(namespace: &[u8]) {
     print_words(b"page.bin", namespace, b"BlobData", b"curve", b"curve.bin");
 }
 
-// The curve under another key.
-fn under_key(key: &[u8]) {
-    print_words(b"page.bin", b"1", b"BlobData", key, b"curve.bin");
-}
-
 // A single entry.
 fn single(kind: &[u8], value: &[u8]) {
     print_words(b"page.bin", b"1", kind, b"unit", value);
@@ -29,18 +24,13 @@ fn data(namespace: &[u8], path: &[u8]) {
 fn words() {
     in_namespace(b"300");
     in_namespace(b"");
-    in_namespace(b"0x1G");
-    under_key(b"");
-    under_key(b"sixteen_bytes_on");
+    print_words(b"page.bin", b"1", b"U8", b"sixteen_bytes_on", b"1");
     single(b"Curve", b"1");
     single(b"U8", b"256");
-    single(b"I16", b"-1");
-    single(b"U64", b"18446744073709551616");
 }
 
 fn files() {
     on_page(b"missing.bin");
-    on_page(b"");
     on_page(b".");
     on_page(b"short.bin");
     on_page(b"long.bin");
@@ -58,15 +48,9 @@ fn refusals() {
     print_words(b"crowded.bin", b"1", b"Blob", b"curve", b"curve.bin");
 }
 
-// An empty item, and a single in the last entry of a page, which fills it.
-fn taken() {
-    data(b"0x01", b"empty.bin");
-    on_page(b"crowded.bin");
-}
-
 fn main() {
     words();
     files();
     refusals();
-    taken();
+    on_page(b"crowded.bin");
 }
