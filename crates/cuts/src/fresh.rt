@@ -1,5 +1,4 @@
 // A 4,000-byte curve on a fresh page.
-use crate::show;
 use cutting::Request;
 use cutting::Sector;
 use page::Listed;
@@ -58,6 +57,11 @@ fn curve() -> Request {
 pub(crate) fn print_all() {
     let mut payload = [0u8; 4000];
     cutting::fill(&mut payload);
-    show::text(b"cuts of a 4,000-byte curve on a fresh page");
-    show::cuts(b"curve", page(), curve(), &payload);
+    report::print_cuts(
+        b"cuts of a 4,000-byte curve on a fresh page",
+        b"curve",
+        page(),
+        curve(),
+        &payload,
+    );
 }

@@ -1,10 +1,11 @@
--- Laws of the comparisons: two lists from k on, place by place; runs of cuts that are found alike.
+-- Laws of the comparisons: two lists from k on, place by place; runs of cuts that are found alike; the first number at which a test
+-- fails.
 -- Assumes nothing.
 use mathlib.Core.Path.{_≡_, refl, sym, ap, _∙_}
-use mathlib.Core.Bool.{Bool, true, false, _&&_, and-false}
+use mathlib.Core.Bool.{Bool, true, false, _&&_, cond, and-false}
 use mathlib.Core.List.{List, [], _∷_}
 use mathlib.Core.Logic.{⊎-elim}
-use Prim.Native.Nat.{ℕ, suc, _+_, _<_, _≤_}
+use Prim.Native.Nat.{ℕ, suc, _+_, _-_, _<_, _≤_}
 use native.Mathlib.Numerals.{add-one}
 use native.Mathlib.Nat.{eq-or-lt-of-le}
 use native.Mathlib.Omega.{arith}
@@ -15,7 +16,7 @@ use borrow.Author.Tests.{eq-eqb, ne-eqb}
 use Rattle.marks.specs.Marks.{sameBytes}
 use Rattle.page.specs.declared.Listed.{Listed}
 use Rattle.page.specs.Record.{noItem}
-use Rattle.cutting.specs.Cutting.{samePlace, sameList, Found, Absent, Whole, Otherwise, sameFound}
+use Rattle.cutting.specs.Cutting.{samePlace, sameList, Found, Absent, Whole, Otherwise, sameFound, firstNot}
 
 -- lists of two lengths are not the same
 pub same-bytes-length : (xs ys : List ℕ) → (length xs ≡ length ys → ⊥) → sameBytes xs ys ≡ false
@@ -70,3 +71,25 @@ pub alike-more : (f : ℕ → Found) (first n : ℕ) → ((k : ℕ) → first �
     → (k : ℕ) → first ≤ k → k ≤ n + 1 → f k ≡ f first
 alike-more f first n alike next k h g =
     ⊎-elim (λ e. ap f e ∙ next) (λ l. alike k h (omega arith)) (eq-or-lt-of-le g)
+
+-- ---- the first number at which a test fails
+
+first-step : (test : ℕ → Bool) (n more rest : ℕ) → more ≡ suc rest → firstNot test n more ≡ cond (test n) (firstNot test (n + 1) rest) n
+unfolding firstNot
+first-step test n more rest e = rw e
+
+module _ (test : ℕ → Bool) (n more rest : ℕ) (e : more ≡ rest + 1) where
+  -- where the test holds, what is behind n decides
+  pub first-pass : test n ≡ true → firstNot test n more ≡ firstNot test (n + 1) rest
+  first-pass t = rw t at (first-step test n more rest (e ∙ add-one rest))
+
+  pub first-here : test n ≡ false → firstNot test n more ≡ n
+  first-here t = rw t at (first-step test n more rest (e ∙ add-one rest))
+
+pub first-end : (test : ℕ → Bool) (n more : ℕ) → more ≡ 0 → firstNot test n more ≡ n
+unfolding firstNot
+first-end test n more e = rw e
+
+-- a comparison of what was found is one of the definitions
+pub same-of : (a b x y : Found) (r t : Bool) → a ≡ x → b ≡ y → r ≡ sameFound a b → r ≡ t → sameFound x y ≡ t
+same-of a b x y r t e f g h = cc

@@ -1,22 +1,25 @@
 -- Power cuts, run (01, 'Programming', 'Opening'): an append stopped after n units, the page opened, and what was found.
 --
--- In order: the append; the cut; the two sectors that a cut may leave, by their items and bytes; what was found.
+-- In order: the append; the cut; how many units there are; the two sectors that a cut may leave, by their items and bytes; what was
+-- found; runs of cuts that are found alike; bytes for an item.
 -- Assumes nothing.
+use mathlib.Core.Path.{_≡_}
 use mathlib.Core.Bool.{Bool, true, false, _&&_, cond}
-use mathlib.Core.List.{List, [], _∷_}
-use Prim.Native.Nat.{ℕ, _*_}
+use mathlib.Core.List.{List, [], _∷_, _++_}
+use Prim.Native.Nat.{ℕ, zero, suc, _+_, _-_, _*_, _%_}
 use lib.Dec.{eqb, leb}
 use lib.ListN.{length}
 use Rattle.append.specs.declared.Single.{Single}
 use Rattle.append.specs.declared.Variable.{Variable}
-use Rattle.append.specs.Append.{appendSingle, appendSingleImage, appendVariable, appendVariableImage}
+use Rattle.append.specs.Append.{singleChecks, singlePlan, appendSingle, appendSingleImage, variableChecks, variablePlan, appendVariable, appendVariableImage}
+use Rattle.flash.specs.Flash.{Unit4}
 use Rattle.marks.specs.Marks.{sameBytes}
 use Rattle.opening.specs.Opening.{opening, openingImage}
 use Rattle.page.specs.declared.Listed.{Listed}
 use Rattle.page.specs.declared.Outcome.{Outcome}
 use Rattle.page.specs.declared.ThinPage.{ThinPage}
 use Rattle.page.specs.Record.{nextFree}
-use Rattle.sector.specs.Answers.{numberOf}
+use Rattle.sector.specs.Answers.{Check, accepted, numberOf}
 use Rattle.sector.specs.Layout.{entriesPerPage, field}
 use Rattle.cutting.specs.declared.Cut.{Cut}
 use Rattle.cutting.specs.declared.Finished.{Finished}
@@ -84,6 +87,41 @@ finishedBy before request payload =
           };
     }
 
+-- ---- the units
+
+-- the first number from n on at which a test fails; n + more where it holds for so many
+unfoldable pub firstNot : (ℕ → Bool) → ℕ → ℕ → ℕ
+firstNot test n zero = n
+firstNot test n (suc more) = cond (test n) (firstNot test (n + 1) more) n
+
+-- the append stopped after n units answers Stopped
+abbrev pub isStopped : Sector → Request → List ℕ → ℕ → Bool
+isStopped before request payload n =
+    eqb (numberOf (appended (before .image) (before .page) request payload n .answer)) 11
+
+-- the first n at which the append is not stopped; 0 where it is refused
+abbrev pub unitCount : Sector → Request → List ℕ → ℕ
+unitCount before request payload = firstNot (isStopped before request payload) 0 most
+
+-- the checks of the request's append, in 01's order
+abbrev pub checksOf : List ℕ → ThinPage → Request → List ℕ → List Check
+checksOf image page request payload =
+    cond (request .single)
+    (singleChecks image page (singleOf request))
+    (variableChecks image page (variableOf request) payload)
+
+-- the units that the request's append programs
+abbrev pub planOf : ThinPage → Request → List ℕ → List Unit4
+planOf page request payload =
+    cond (request .single) (singlePlan page (singleOf request)) (variablePlan page (variableOf request) payload)
+
+-- what is counted is the plan, where no check refuses
+abbrev pub CountsThePlan : Type 0
+CountsThePlan =
+    (before : Sector) (request : Request) (payload : List ℕ) → length (request .key) ≡ 16 → length (request .bytes) ≡ 8
+    → unitCount before request payload
+    ≡ cond (accepted (checksOf (before .image) (before .page) request payload)) (length (planOf (before .page) request payload)) 0
+
 -- ---- two sectors
 
 -- the same hash and the same index
@@ -132,3 +170,19 @@ sameFound Whole Otherwise = false
 sameFound Otherwise Absent = false
 sameFound Otherwise Whole = false
 sameFound Otherwise Otherwise = true
+
+-- ---- runs of cuts
+
+-- the last cut from `first` to `last` up to which all are found as the first is; `first` where it is over `last`
+abbrev pub lastAlike : Sector → Sector → Request → List ℕ → ℕ → ℕ → ℕ
+lastAlike before after request payload first last =
+    firstNot
+    (λ n. sameFound (foundAfter before after request payload first) (foundAfter before after request payload (n + 1)))
+    first (last - first)
+
+-- ---- bytes for an item
+
+-- 0, 1 and so on, and after 250 from 0 again
+unfoldable pub curve : ℕ → List ℕ
+curve zero = []
+curve (suc n) = curve n ++ (n % 251 ∷ [])

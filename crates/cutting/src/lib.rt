@@ -1,8 +1,9 @@
 // Power cuts: an append stopped after n units, the page opened, and what was found.
 ghost use mathlib.Core.Path.{_≡_};
 ghost use Prim.Native.Nat.{ℕ, _≤_};
+ghost use lib.ListN.{length};
 ghost use Rattle.marks.specs.Marks.{sameBytes};
-ghost use Rattle.cutting.specs.Cutting.{appended, appendedImage, cutAfter, finishedBy, sameList, sameItems, sameEntries, sameSector, foundIn, foundAfter, sameFound};
+ghost use Rattle.cutting.specs.Cutting.{appended, appendedImage, cutAfter, finishedBy, sameList, sameItems, sameEntries, sameSector, foundIn, foundAfter, sameFound, unitCount, lastAlike, curve};
 use append::Single;
 use append::Variable;
 use page::Listed;
@@ -142,7 +143,8 @@ fn same_items(first: ThinPage, second: ThinPage) -> bool
     same_list(list, other)
 }
 
-fn same_bytes(first: &[u8], second: &[u8]) -> bool
+// Whether two lists of bytes are the same.
+pub fn same_bytes(first: &[u8], second: &[u8]) -> bool
     ensures { λ r. ⌜ r ≡ sameBytes (now (first .entry)) (now (second .entry)) ⌝ }
 {
     if first.len() != second.len() {
@@ -217,9 +219,10 @@ pub fn finish(before: Sector, request: Request, payload: &[u8]) -> Finished
     Finished { answer, sector }
 }
 
-// The units of the append: the first n at which it is not stopped.
+// The units of the append: the first n at which it is not stopped; 0 where it is refused.
 pub fn count_units(before: Sector, request: Request, payload: &[u8]) -> usize
-    ensures { λ r. ⌜ r ≤ 1100 ⌝ }
+    ensures count { λ r. ⌜ r ≡ unitCount before request (now (payload .entry)) ⌝ }
+    ensures most { λ r. ⌜ r ≤ 1100 ⌝ }
 {
     for n in 0..MOST {
         let mut image = before.image;
@@ -269,7 +272,7 @@ pub fn found_after(
     found_in(before, after, left)
 }
 
-// The last of the cuts from `first` to `last` on end that are all found as the first is.
+// The last cut from `first` to `last` up to which all are found as the first is.
 pub fn last_alike(
     before: Sector,
     after: Sector,
@@ -280,6 +283,7 @@ pub fn last_alike(
 ) -> usize
     ensures within { λ r. ⌜ (first ≤ r) × (first ≤ last → r ≤ last) ⌝ }
     ensures alike { λ r. ⌜ ((k : ℕ) → first ≤ k → k ≤ r → foundAfter before after request (now (payload .entry)) k ≡ foundAfter before after request (now (payload .entry)) first) ⌝ }
+    ensures last { λ r. ⌜ r ≡ lastAlike before after request (now (payload .entry)) first last ⌝ }
 {
     let wanted = found_after(before, after, request, payload, first);
     let mut n = first;
@@ -294,7 +298,9 @@ pub fn last_alike(
 }
 
 // Bytes for an item: 0, 1 and so on, and after 250 from 0 again.
-pub fn fill(payload: &mut [u8]) {
+pub fn fill(payload: &mut [u8])
+    ensures { λ _. ⌜ now (payload .exit) ≡ curve (length (now (payload .entry))) ⌝ }
+{
     let mut i = 0;
     while i < payload.len() {
         payload[i] = (i % 251) as u8;

@@ -8,8 +8,6 @@ use Rattle.marks.specs.Marks.{sameBytes}
 use Rattle.cutting.proofs.Laws.{same-bytes-length, same-bytes-pass, same-bytes-differ, same-bytes-end}
 use Rattle.cutting.proofs.same_bytes.Statement.{statement}
 use Rattle.cutting.proofs.same_bytes.Tie as tie
-use Rattle.cutting.proofs.same_bytes.Reads as reads
-use Rattle.cutting.proofs.same_bytes.Lts as lts
 
 abbrev Inv-loop : tie.InvT-loop
 Inv-loop first second i₀ i = (i ≤ length first) × (sameBytes (drop i first) (drop i second) ≡ sameBytes first second)
@@ -17,39 +15,30 @@ Inv-loop first second i₀ i = (i ≤ length first) × (sameBytes (drop i first)
 abbrev μ-loop : tie.MeasureT-loop
 μ-loop first second i₀ i = length first - i
 
--- src/lib.rt:152:9
 returns : tie.Need-returns Inv-loop μ-loop
 returns c = sym (same-bytes-length (c .before .args .first .now) (c .before .args .second .now) (c .if1 .taken))
 
--- src/lib.rt:155:5
 loop-holds : tie.Need-loop-holds Inv-loop μ-loop
 loop-holds c = (search needs, refl)
 
--- src/lib.rt:156:12
 shared-slice-read-if2 : tie.Need-shared-slice-read-if2 Inv-loop μ-loop
 shared-slice-read-if2 c = search needs
 
--- src/lib.rt:156:24
 shared-slice-read-if2-2 : tie.Need-shared-slice-read-if2-2 Inv-loop μ-loop
 shared-slice-read-if2-2 c = search needs
 
--- src/lib.rt:157:13
 returns-2 : tie.Need-returns-2 Inv-loop μ-loop
 returns-2 c = let at = c .before .before .before .before in let start = at .before .before in sym (same-bytes-differ (start .args .first .now) (start .args .second .now) (at .loop .i) (omega arith) (omega arith) (c .if2 .taken)) ∙ at .loop .inv .1
 
--- src/lib.rt:159:9
 add-i : tie.Need-add-i Inv-loop μ-loop
 add-i c = search needs
 
--- src/lib.rt:155:5
 loop-less : tie.Need-loop-less Inv-loop μ-loop
 loop-less c = search needs
 
--- src/lib.rt:155:5
 loop-again : tie.Need-loop-again Inv-loop μ-loop
 loop-again c = let at = c .before .before .before .before in let start = at .before .before in (omega arith, sym (same-bytes-pass (start .args .first .now) (start .args .second .now) (at .loop .i) (omega arith) (omega arith) (c .if2 .left)) ∙ at .loop .inv .1)
 
--- src/lib.rt:148:1
 returns-3 : tie.Need-returns-3 Inv-loop μ-loop
 returns-3 c = let at = c .before in let start = at .before .before in sym (same-bytes-end (start .args .first .now) (start .args .second .now) (at .loop .i) (omega arith) (omega arith)) ∙ at .loop .inv .1
 

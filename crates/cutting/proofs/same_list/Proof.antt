@@ -1,11 +1,10 @@
 -- `same_list` meets its contract: the places passed are the same, so those behind them decide.
 use mathlib.Core.Path.{_≡_, refl, sym, _∙_}
-use mathlib.Core.Bool.{and-false}
 use Prim.Native.Nat.{_≤_, _-_}
 use native.Mathlib.Omega.{arith}
 use borrow.Author.Needs.{needs}
 use borrow.Author.Tests.{eq-eqb, ne-eqb}
-use lib.ListN.{length, drop}
+use lib.ListN.{drop}
 use Rattle.cutting.specs.Cutting.{sameList}
 use Rattle.cutting.proofs.Laws.{same-list-drop, same-list-end}
 use Rattle.cutting.proofs.same_list.Statement.{statement}

@@ -3,8 +3,8 @@ use mathlib.Core.Logic.{⊎-elim}
 use Prim.Native.Nat.{_≤_, _+_, _-_}
 use native.Mathlib.Omega.{arith}
 use borrow.Author.Needs.{needs}
-use Rattle.cuts.proofs.show.ranges.Statement.{statement}
-use Rattle.cuts.proofs.show.ranges.Tie as tie
+use Rattle.report.proofs.show.ranges.Statement.{statement}
+use Rattle.report.proofs.show.ranges.Tie as tie
 
 abbrev Inv-loop : tie.InvT-loop
 Inv-loop name before after request payload units otherwise₀ n₀ otherwise n = (n ≤ units + 1) × (otherwise ≤ n)

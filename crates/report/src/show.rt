@@ -31,7 +31,7 @@ pub(crate) fn answered(answer: Answer) {
         Answer::BadRecord => text(b"2 BadRecord: the record is not fit to use"),
         Answer::WrongState => text(b"3 WrongState: the page is not Active"),
         Answer::BadRequest => text(
-            b"4 BadRequest: the item is in namespace 0, or not of the call's types",
+            b"4 BadRequest: the type is none that an append takes, or the item has data and is in namespace 0",
         ),
         Answer::ValueTooLong => text(b"5 ValueTooLong: the item takes more than 126 entries"),
         Answer::PageFull => text(b"6 PageFull: the item takes more entries than are free"),
