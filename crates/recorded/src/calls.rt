@@ -20,14 +20,18 @@ use boundary::sums;
 use boundary::writing;
 use sector::bytes;
 
+// Bytes 10..42 of the record.
 const MAP: usize = 4106;
 
 const MAP_END: usize = 4138;
 
+// The image's entries: all behind its header and its map.
 const ENTRIES: usize = 64;
 
+// Bytes 40..56 of the request.
 const KEY: usize = 17160;
 
+// Bytes 56..64 of the request.
 const SINGLE: usize = 17176;
 
 // No buffer has more bytes.
@@ -100,6 +104,7 @@ fn append(
     )
 }
 
+// Append variable, 17.
 fn append_data(
     given: Request,
     key: &[u8],
@@ -156,7 +161,7 @@ fn run_sum(call: u8, all: &[u8], given: Request, left: &mut [u8])
     put_result(left, number, [0; 57]);
 }
 
-// The answer's buffer is full of what the call has to write over.
+// The answer's buffer is full of 0xA5, which the call has to write over.
 fn run_load(call: u8, all: &[u8], given: Request, left: &mut [u8])
     requires { ⌜ (length (now all) ≡ allSize) × (length (now left) ≡ changedSize) × (given .room ≤ 4096) ⌝ }
 {
@@ -172,6 +177,7 @@ fn run_load(call: u8, all: &[u8], given: Request, left: &mut [u8])
     put_result(left, number, answer);
 }
 
+// As `run_load`.
 fn run_look(call: u8, all: &[u8], given: Request, left: &mut [u8])
     requires { ⌜ (length (now all) ≡ allSize) × (length (now left) ≡ changedSize) ⌝ }
 {
@@ -213,6 +219,7 @@ fn put_page(left: &mut [u8], page: &[u8; 675])
     bytes::put(left, RECORD, page);
 }
 
+// The record goes in and comes back in a buffer of its own.
 fn run_change(call: u8, all: &[u8], given: Request, left: &mut [u8])
     requires { ⌜ (length (now all) ≡ allSize) × (length (now left) ≡ changedSize) × (given .payload ≤ 4096) ⌝ }
 {
@@ -223,7 +230,7 @@ fn run_change(call: u8, all: &[u8], given: Request, left: &mut [u8])
     put_result(left, number, [0; 57]);
 }
 
-// Runs the call on copies, which are left as it leaves them.
+// Runs the call on copies of image, record and output, and lays its result beside them: `left` is what has to be compared.
 pub(crate) fn run(call: u8, all: &[u8], left: &mut [u8]) -> Status
     requires { ⌜ (length (now all) ≡ allSize) × (length (now left) ≡ changedSize) ⌝ }
 {

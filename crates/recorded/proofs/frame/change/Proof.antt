@@ -7,11 +7,15 @@ use Rattle.recorded.proofs.Laws.{start-size-le}
 use Rattle.recorded.proofs.frame.change.Statement.{statement}
 use Rattle.recorded.proofs.frame.change.Tie as tie
 
+-- what the frame names, once it is known to fit its buffer
 placed : (c : tie.After-start-of)
-    → c .start-of .result + c .before .before .before .before .before .before .before .before .args .frame .offset + c .before .before .before .before .before .before .before .before .args .frame .size ≤ allSize
+    → c .start-of .result + c .before .before .before .before .before .before .before .before .args .frame .offset
+    + c .before .before .before .before .before .before .before .before .args .frame .size
+    ≤ allSize
 placed c =
+    let frame = c .before .before .before .before .before .before .before .before .args .frame in
     omega
-    (arith, start-size-le (c .before .before .before .before .before .before .before .before .args .frame .name), c .start-of .ensures, c .before .before .size-of .ensures, c .before .if2 .left)
+    (arith, start-size-le (frame .name), c .start-of .ensures, c .before .before .size-of .ensures, c .before .if2 .left)
 
 returns : tie.Need-returns
 returns c = search needs
