@@ -1,0 +1,45 @@
+-- The seven buffers of a replay (compare/RECORDED.md), one behind the other in one list.
+--
+-- In order: the sizes of the whole and of what a call changes; where each buffer starts, and its size; that no two share a byte.
+-- Assumes nothing.
+use mathlib.Core.Path.{_≡_, refl}
+use mathlib.Core.List.{[], _∷_}
+use Prim.Native.Nat.{ℕ, _+_}
+use lib.ListN.{getD}
+
+abbrev pub allSize : ℕ
+allSize = 17184
+
+-- image, record, output and result stand first: what a call may change
+abbrev pub changedSize : ℕ
+changedSize = 8928
+
+abbrev pub requestSize : ℕ
+requestSize = 64
+
+abbrev pub sourceStart : ℕ
+sourceStart = 8928
+
+abbrev pub dataStart : ℕ
+dataStart = 13024
+
+-- by the buffer's number: image, source, record, data, output, request, result; 0 for a number that none has
+unfoldable pub startOf : ℕ → ℕ
+startOf buffer = getD (0 ∷ sourceStart ∷ 4096 ∷ dataStart ∷ 4771 ∷ 17120 ∷ 8867 ∷ []) buffer 0
+
+-- 0 for a number that none has
+unfoldable pub sizeOf : ℕ → ℕ
+sizeOf buffer = getD (4096 ∷ 4096 ∷ 675 ∷ 4096 ∷ 4096 ∷ 64 ∷ 61 ∷ []) buffer 0
+
+-- image, record, output, result, source, data, request: each starts where the one before it ends
+pub buffers-follow : (startOf 0 ≡ 0)
+    × (startOf 2 ≡ startOf 0 + sizeOf 0)
+    × (startOf 4 ≡ startOf 2 + sizeOf 2)
+    × (startOf 6 ≡ startOf 4 + sizeOf 4)
+    × (startOf 1 ≡ startOf 6 + sizeOf 6)
+    × (startOf 3 ≡ startOf 1 + sizeOf 1)
+    × (startOf 5 ≡ startOf 3 + sizeOf 3)
+    × (allSize ≡ startOf 5 + sizeOf 5)
+    × (changedSize ≡ startOf 1)
+unfolding startOf sizeOf
+buffers-follow = (refl, refl, refl, refl, refl, refl, refl, refl, refl)

@@ -1,0 +1,4 @@
+pub mod Buffers
+pub mod Numbers
+pub mod Frames
+pub mod Requests
