@@ -5,6 +5,8 @@ use crate::tally::NONE;
 use crate::tally::Tally;
 use libc::STDOUT_FILENO;
 
+const NAME_SIZE: usize = 20;
+
 pub(crate) fn text(bytes: &[u8]) {
     io::write_all(STDOUT_FILENO, bytes);
 }
@@ -13,45 +15,24 @@ fn number(value: u64) {
     io::print_decimal(STDOUT_FILENO, value);
 }
 
-// The calls 0 to 11.
-fn reading_name(call: u8) {
-    match call {
-        0 => text(b"crc32"),
-        1 => text(b"item CRC"),
-        2 => text(b"header CRC"),
-        3 => text(b"hash"),
-        4 => text(b"type byte"),
-        5 => text(b"width"),
-        6 => text(b"load"),
-        7 => text(b"raw read"),
-        8 => text(b"load data"),
-        9 => text(b"entry state"),
-        10 => text(b"statistics"),
-        _ => text(b"hash bound"),
+// 20 bytes of a table, and nothing behind its end.
+fn row(table: &[u8], start: usize) {
+    if start >= table.len() {
+        return;
     }
+    if NAME_SIZE > table.len() - start {
+        return;
+    }
+    let end = start + NAME_SIZE;
+    text(&table[start..end]);
 }
 
-// The calls 13 to 21.
-fn writing_name(call: u8) {
-    match call {
-        13 => text(b"initialise"),
-        14 => text(b"mark full"),
-        15 => text(b"append single"),
-        16 => text(b"append namespace"),
-        17 => text(b"append variable"),
-        18 => text(b"copy in"),
-        19 => text(b"erase"),
-        20 => text(b"purge"),
-        _ => text(b"purge by namespace"),
-    }
-}
-
+// The name of a call, in 20 bytes. One table: each text of its own would be walked by the proof.
 fn name(call: u8) {
-    if call < 12 {
-        reading_name(call);
-    } else {
-        writing_name(call);
-    }
+    row(
+        b"crc32               item CRC            header CRC          hash                type byte           width               load                raw read            load data           entry state         statistics          hash bound          opening             initialise          mark full           append single       append namespace    append variable     copy in             erase               purge               purge by namespace  ",
+        NAME_SIZE * call as usize,
+    );
 }
 
 fn why(status: Status) {
@@ -95,8 +76,8 @@ fn first(tally: Tally) {
     }
     text(b"the first that does not is case ");
     number(tally.first);
-    text(b", ");
-    name(tally.first_call);
+    text(b", of call ");
+    number(tally.first_call as u64);
     text(b"\n");
 }
 
@@ -105,11 +86,7 @@ fn count(call: u8, cases: u64) {
     if call == 12 {
         return;
     }
-    text(b"call ");
-    number(call as u64);
-    text(b", ");
     name(call);
-    text(b": ");
     number(cases);
     text(b"\n");
 }
