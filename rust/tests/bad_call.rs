@@ -113,3 +113,22 @@ fn refusals_leave_zeros() {
     assert_eq!(buffers.record, Record::default().as_bytes());
     assert_eq!((buffers.answer[0], &buffers.answer[1..]), (0x21, &[0; 56][..]));
 }
+
+/// A state byte over 5 is BadRecord, behind BadImage, and stays where it was.
+#[test]
+fn no_state_is_a_bad_record() {
+    for state in [6, 255] {
+        let mut buffers = Buffers::new();
+        buffers.record[0] = state;
+        let before = buffers.record.clone();
+        let (image, record) = (buffers.image.as_mut_ptr(), buffers.record.as_mut_ptr());
+        // Safety: no length is over that of its buffer.
+        unsafe {
+            assert_eq!(nvs_initialise(image, 4095, record, 675, 1, u64::MAX), 1);
+            assert_eq!(nvs_initialise(image, 4096, record, 675, 1, u64::MAX), 2);
+            assert_eq!(nvs_erase(image, 4096, record, 675, 0, 1), 2);
+        }
+        assert_eq!(buffers.record, before);
+        assert!(buffers.image.iter().all(|&byte| byte == 0xFF));
+    }
+}

@@ -1,22 +1,22 @@
--- A record and its 675 bytes give each other back (specs/Encoding).
+-- A record and its 675 bytes give each other back, and a byte that is no state makes no record that is fit (specs/Encoding).
 -- Assumes nothing.
 use mathlib.Core.Path.{_≡_, refl, sym, ap, ap₂, _∙_}
-use mathlib.Core.Bool.{Bool, true, cond}
+use mathlib.Core.Bool.{Bool, true, false, cond}
 use mathlib.Core.List.{List, [], _∷_, _++_}
 use Prim.Native.Nat.{ℕ, zero, suc, _+_, _*_, _/_, _%_, _^_, _<_, _≤_}
 use native.Mathlib.Omega.{arith}
 use lib.ListN.{length, take, drop, getD, length-drop, take-append-drop}
 use lib.Seq.{take-at, drop-append-add, getD-append-add, drop-cons, drop-drop, length-take-le}
-use borrow.Author.Tests.{leb-true}
+use borrow.Author.Tests.{leb-true, lt-leb}
 use Rattle.flash.proofs.Laws.{Bytes, bytes-nil, bytes-cons, bytes-of-getD, getD-bytes, bytes-take, bytes-drop}
 use Rattle.page.specs.declared.Listed.{Listed}
 use Rattle.page.specs.declared.ThinPage.{ThinPage}
-use Rattle.page.specs.Record.{noItem}
+use Rattle.page.specs.Record.{noItem, fitToUse}
 use Rattle.sector.specs.declared.PageState.{PageState}
 use Rattle.sector.specs.declared.PageState.the-variants.{Uninitialized, Active, Full, Freeing, Corrupt, Invalid}
 use Rattle.sector.specs.Layout.{number, littleEndian, field}
 use Rattle.sector.proofs.Laws.{number-littleEndian}
-use Rattle.encoding.specs.Encoding.{stateByte, stateOfByte, isState, placesBytes, placesOf, countBytes, recordBytes, usedOf, recordOf, Holds, RecordComesBack, BytesComeBack}
+use Rattle.encoding.specs.Encoding.{stateByte, stateOfByte, isState, placesBytes, placesOf, countBytes, recordBytes, usedOf, recordOf, NoStateIsUnfit, Holds, RecordComesBack, BytesComeBack}
 
 -- ---- states
 
@@ -44,6 +44,14 @@ byte-state (suc (suc (suc zero))) h = refl
 byte-state (suc (suc (suc (suc zero)))) h = refl
 byte-state (suc (suc (suc (suc (suc zero))))) h = refl
 byte-state (suc (suc (suc (suc (suc (suc n)))))) h = absurd (omega arith)
+
+-- 255 entries used are more than a page has
+pub no-state-is-unfit : NoStateIsUnfit
+unfolding recordOf fitToUse
+no-state-is-unfit bytes h =
+    let used : usedOf bytes ≡ 255 = ap (λ (b : Bool). cond b (getD bytes 42 0) 255) h in
+    let over : 126 < usedOf bytes + getD bytes 43 0 = omega (arith, used) in
+    rw (lt-leb (usedOf bytes + getD bytes 43 0) 126 over)
 
 -- ---- words
 

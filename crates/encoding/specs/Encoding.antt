@@ -1,18 +1,18 @@
 -- The buffers of the C boundary: a record as 675 bytes, an answer as 57, little endian and with no gaps.
 --
--- In order: states; places of the list; a record's bytes; the record that bytes hold; that the two give each other back; an answer's bytes;
+-- In order: states; places of the list; a record's bytes; the record that bytes hold, and that no state is unfit; that the two give each other back; an answer's bytes;
 -- when a buffer has a wrong size.
 -- A byte over 5 is no state. The record that is read then is one that is not fit to use, so that BadRecord comes in 01's place.
 -- Assumes nothing.
 use mathlib.Core.Path.{_≡_}
-use mathlib.Core.Bool.{Bool, true, not, cond}
+use mathlib.Core.Bool.{Bool, true, false, not, cond}
 use mathlib.Core.List.{List, [], _∷_, _++_}
 use Prim.Native.Nat.{ℕ, zero, suc, _^_, _<_}
 use lib.Dec.{eqb, leb}
 use lib.ListN.{length, take, drop, getD, replicate}
 use Rattle.page.specs.declared.Listed.{Listed}
 use Rattle.page.specs.declared.ThinPage.{ThinPage}
-use Rattle.page.specs.Record.{noItem}
+use Rattle.page.specs.Record.{noItem, fitToUse}
 use Rattle.sector.specs.declared.PageState.{PageState}
 use Rattle.sector.specs.declared.PageState.the-variants.{Uninitialized, Active, Full, Freeing, Corrupt, Invalid}
 use Rattle.sector.specs.declared.Statistics.{Statistics}
@@ -97,6 +97,10 @@ recordOf bytes =
       len = getD bytes 44 0;
       list = placesOf entriesPerPage (drop listOffset bytes);
     }
+
+-- a byte that is no state makes a record that is not fit to use, whatever the other bytes are
+abbrev pub NoStateIsUnfit : Type 0
+NoStateIsUnfit = (bytes : List ℕ) → isState (getD bytes 0 0) ≡ false → fitToUse (recordOf bytes) ≡ false
 
 -- ---- the round trip
 
