@@ -1,8 +1,8 @@
 // A 4,000-byte curve on a fresh page.
-use cutting::Request;
 use cutting::Sector;
 use page::Listed;
 use page::ThinPage;
+use request::Request;
 use sector::PageState;
 
 fn uninitialized() -> ThinPage {

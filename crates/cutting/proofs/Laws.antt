@@ -13,33 +13,9 @@ use lib.Dec.{eqb}
 use lib.ListN.{length, getD, drop}
 use lib.Seq.{drop-cons, drop-length}
 use borrow.Author.Tests.{eq-eqb, ne-eqb}
-use Rattle.marks.specs.Marks.{sameBytes}
 use Rattle.page.specs.declared.Listed.{Listed}
 use Rattle.page.specs.Record.{noItem}
 use Rattle.cutting.specs.Cutting.{samePlace, sameList, Found, Absent, Whole, Otherwise, sameFound, firstNot}
-
--- lists of two lengths are not the same
-pub same-bytes-length : (xs ys : List ℕ) → (length xs ≡ length ys → ⊥) → sameBytes xs ys ≡ false
-same-bytes-length [] [] h = absurd (h refl)
-same-bytes-length [] (y ∷ ys) h = ne-eqb _ _ (λ e. h (sym e))
-same-bytes-length (x ∷ xs) [] h = refl
-same-bytes-length (x ∷ xs) (y ∷ ys) h =
-    ap (λ (b : Bool). eqb x y && b) (same-bytes-length xs ys (λ e. h (ap suc e))) ∙ and-false (eqb x y)
-
-module _ (xs ys : List ℕ) (k : ℕ) (inside : k < length xs) (within : k < length ys) where
-  -- two lists from k on: their first elements, and what is behind them
-  same-bytes-drop : sameBytes (drop k xs) (drop k ys) ≡ (eqb (getD xs k 0) (getD ys k 0) && sameBytes (drop (k + 1) xs) (drop (k + 1) ys))
-  same-bytes-drop = rw (add-one k, drop-cons xs k 0 inside, drop-cons ys k 0 within)
-
-  pub same-bytes-pass : getD xs k 0 ≡ getD ys k 0 → sameBytes (drop k xs) (drop k ys) ≡ sameBytes (drop (k + 1) xs) (drop (k + 1) ys)
-  same-bytes-pass e = same-bytes-drop ∙ ap (λ (b : Bool). b && sameBytes (drop (k + 1) xs) (drop (k + 1) ys)) (eq-eqb _ _ e)
-
-  pub same-bytes-differ : (getD xs k 0 ≡ getD ys k 0 → ⊥) → sameBytes (drop k xs) (drop k ys) ≡ false
-  same-bytes-differ h = same-bytes-drop ∙ ap (λ (b : Bool). b && sameBytes (drop (k + 1) xs) (drop (k + 1) ys)) (ne-eqb _ _ h)
-
--- two lists that end at k
-pub same-bytes-end : (xs ys : List ℕ) (k : ℕ) → k ≡ length xs → length xs ≡ length ys → sameBytes (drop k xs) (drop k ys) ≡ true
-same-bytes-end xs ys k e f = rw (e, drop-length xs, f, drop-length ys)
 
 pub same-list-drop : (xs ys : List Listed) (k : ℕ) → k < length xs → k < length ys
     → sameList (drop k xs) (drop k ys)

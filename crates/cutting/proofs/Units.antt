@@ -28,7 +28,7 @@ use Rattle.append.specs.declared.Variable.{Variable}
 use Rattle.append.specs.Append.{singleChecks, singleBytes, singlePlan, withSingle, appendSingle, spanFor, variableChecks, variableHeader, variablePlan, withVariable, appendVariable}
 use Rattle.append.proofs.Laws.{single-room, length-itemBytes}
 use Rattle.append_variable.proofs.Laws.{variable-room}
-use Rattle.cutting.specs.declared.Request.{Request}
+use Rattle.request.specs.declared.Request.{Request}
 use Rattle.cutting.specs.declared.Sector.{Sector}
 use Rattle.cutting.specs.Cutting.{singleOf, variableOf, appended, firstNot, isStopped, unitCount, checksOf, planOf, CountsThePlan}
 

@@ -13,17 +13,16 @@ use Rattle.append.specs.declared.Single.{Single}
 use Rattle.append.specs.declared.Variable.{Variable}
 use Rattle.append.specs.Append.{singleChecks, singlePlan, appendSingle, appendSingleImage, variableChecks, variablePlan, appendVariable, appendVariableImage}
 use Rattle.flash.specs.Flash.{Unit4}
-use Rattle.marks.specs.Marks.{sameBytes}
 use Rattle.opening.specs.Opening.{opening, openingImage}
 use Rattle.page.specs.declared.Listed.{Listed}
 use Rattle.page.specs.declared.Outcome.{Outcome}
 use Rattle.page.specs.declared.ThinPage.{ThinPage}
 use Rattle.page.specs.Record.{nextFree}
 use Rattle.sector.specs.Answers.{Check, accepted, numberOf}
-use Rattle.sector.specs.Layout.{entriesPerPage, field}
+use Rattle.sector.specs.Layout.{entriesPerPage, field, sameBytes}
 use Rattle.cutting.specs.declared.Cut.{Cut}
 use Rattle.cutting.specs.declared.Finished.{Finished}
-use Rattle.cutting.specs.declared.Request.{Request}
+use Rattle.request.specs.declared.Request.{Request}
 use Rattle.cutting.specs.declared.Sector.{Sector}
 pub use Rattle.cutting.specs.declared.Found.{Found}
 pub use Rattle.cutting.specs.declared.Found.the-variants.{Absent, Whole, Otherwise}

@@ -2,15 +2,16 @@
 ghost use mathlib.Core.Path.{_≡_};
 ghost use Prim.Native.Nat.{ℕ, _≤_};
 ghost use lib.ListN.{length};
-ghost use Rattle.marks.specs.Marks.{sameBytes};
 ghost use Rattle.cutting.specs.Cutting.{appended, appendedImage, cutAfter, finishedBy, sameList, sameItems, sameEntries, sameSector, foundIn, foundAfter, sameFound, unitCount, lastAlike, curve};
 use append::Single;
 use append::Variable;
 use page::Listed;
 use page::Outcome;
 use page::ThinPage;
+use request::Request;
 use sector::Answer;
 use sector::ENTRIES_PER_PAGE;
+use sector::bytes;
 
 const ITEMS_OFFSET: usize = 64;
 
@@ -27,15 +28,6 @@ const MOST: usize = 1100;
 pub struct Sector {
     pub image: [u8; 4096],
     pub page: ThinPage,
-}
-
-// An item to append: a single entry, with its eight bytes, or data, whose bytes are lent beside it.
-pub struct Request {
-    pub single: bool,
-    pub namespace: u8,
-    pub kind: u8,
-    pub key: [u8; 16],
-    pub bytes: [u8; 8],
 }
 
 // What the stopped append answered, and what opening then answered and left.
@@ -143,23 +135,6 @@ fn same_items(first: ThinPage, second: ThinPage) -> bool
     same_list(list, other)
 }
 
-// Whether two lists of bytes are the same.
-pub fn same_bytes(first: &[u8], second: &[u8]) -> bool
-    ensures { λ r. ⌜ r ≡ sameBytes (now (first .entry)) (now (second .entry)) ⌝ }
-{
-    if first.len() != second.len() {
-        return false;
-    }
-    let mut i = 0;
-    while i < first.len() {
-        if first[i] != second[i] {
-            return false;
-        }
-        i += 1;
-    }
-    true
-}
-
 // Whether the first `count` entries of two images are the same.
 fn same_entries(first: [u8; 4096], second: [u8; 4096], count: usize) -> bool
     ensures { λ r. ⌜ r ≡ sameEntries first second count ⌝ }
@@ -168,7 +143,7 @@ fn same_entries(first: [u8; 4096], second: [u8; 4096], count: usize) -> bool
         return false;
     }
     let end = ITEMS_OFFSET + ITEM_SIZE * count;
-    same_bytes(&first[ITEMS_OFFSET..end], &second[ITEMS_OFFSET..end])
+    bytes::same(&first[ITEMS_OFFSET..end], &second[ITEMS_OFFSET..end])
 }
 
 // Whether a sector has the items of another, with the bytes of all entries that are not free there.

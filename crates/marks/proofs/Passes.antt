@@ -13,12 +13,12 @@ use Rattle.flash.specs.Flash.{units, run}
 use Rattle.flash.proofs.Laws.{Bytes, run-append}
 use Rattle.sector.specs.declared.EntryMapState.{EntryMapState}
 use Rattle.sector.specs.declared.EntryMapState.the-variants.{Empty, Written, Erased, Illegal}
-use Rattle.sector.specs.Layout.{entriesPerPage, mapOffset}
+use Rattle.sector.specs.Layout.{entriesPerPage, mapOffset, sameBytes}
 use Rattle.sector.specs.Map.{unpack, statesOf, stateAt, sameState, pack, markRange}
 use Rattle.sector.proofs.Laws.{field-cons, length-statesOf, getD-statesOf, length-markRange}
 use Rattle.sector.proofs.Marks.{both, take-marked, drop-marked, getD-marked-same, statesOf-markRange, unpack-markRange, bytes-markRange, pack-unpack}
 use Rattle.reading.specs.Reading.{shut}
-use Rattle.marks.specs.Marks.{upperCleared, firstPass, sameBytes, mapUnit, changedUnits, shutTo}
+use Rattle.marks.specs.Marks.{upperCleared, firstPass, mapUnit, changedUnits, shutTo}
 
 -- ---- maps by their states
 

@@ -12,7 +12,7 @@ use lib.ListN.{length, take, drop}
 use Rattle.flash.specs.Flash.{Unit4, units}
 use Rattle.sector.specs.declared.EntryMapState.{EntryMapState}
 use Rattle.sector.specs.declared.EntryMapState.the-variants.{Empty, Written, Erased, Illegal}
-use Rattle.sector.specs.Layout.{mapOffset, field}
+use Rattle.sector.specs.Layout.{mapOffset, field, sameBytes}
 use Rattle.sector.specs.Map.{sameState}
 use Rattle.reading.specs.Reading.{shut}
 
@@ -40,12 +40,6 @@ firstPass (s ∷ states) (new ∷ news) (header ∷ headers) =
     cond (sameState new Erased && not header) (upperCleared s) s ∷ firstPass states news headers
 
 -- ---- the units that change
-
--- the same bytes
-abbrev pub sameBytes : List ℕ → List ℕ → Bool
-sameBytes [] ys = eqb (length ys) 0
-sameBytes (x ∷ xs) [] = false
-sameBytes (x ∷ xs) (y ∷ ys) = eqb x y && sameBytes xs ys
 
 -- unit j of a map, of which there are eight
 abbrev pub mapUnit : ℕ → List ℕ → List ℕ

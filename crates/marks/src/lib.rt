@@ -5,10 +5,10 @@ ghost use mathlib.Core.List.{[]};
 ghost use Prim.Native.Nat.{_+_, _*_, _<_, _≤_};
 ghost use lib.ListN.{length, drop};
 ghost use Rattle.flash.specs.Flash.{allOnes, units, run};
-ghost use Rattle.sector.specs.Layout.{sectorSize, entriesPerPage, mapOffset, entryAt, entriesOf};
+ghost use Rattle.sector.specs.Layout.{sectorSize, entriesPerPage, mapOffset, entryAt, entriesOf, sameBytes};
 ghost use Rattle.sector.specs.Map.{unpack, statesOf, stateAt, sameState, markRange};
 ghost use Rattle.reading.specs.Reading.{isEmpty, shutBeforeTail};
-ghost use Rattle.marks.specs.Marks.{shutTo, firstPass, sameBytes, mapUnit, changedUnits};
+ghost use Rattle.marks.specs.Marks.{shutTo, firstPass, mapUnit, changedUnits};
 use sector::ENTRIES_PER_PAGE;
 use sector::EntryMapState;
 

@@ -15,8 +15,8 @@ use lib.Seq.{take-at, drop-at, take-add, drop-drop, take-take, length-take-le, t
 use borrow.Author.Tests.{eqb-true}
 use Rattle.flash.specs.Flash.{Unit4, units, run, program}
 use Rattle.flash.proofs.Laws.{Bytes, bytes-program, OnlyClears, clears-nil, clears-cons, clears-refl, length-clears, length-units-whole, program-past, program-inside, program-splice, run-units, run-append, run-budget}
-use Rattle.sector.specs.Layout.{mapOffset, field}
-use Rattle.marks.specs.Marks.{sameBytes, mapUnit, changedUnits}
+use Rattle.sector.specs.Layout.{mapOffset, field, sameBytes}
+use Rattle.marks.specs.Marks.{mapUnit, changedUnits}
 
 -- ---- new up to a byte, old behind it
 

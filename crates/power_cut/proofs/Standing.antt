@@ -15,11 +15,11 @@ use Rattle.flash.specs.Flash.{Unit4, units, run, every, allOnes}
 use Rattle.flash.proofs.Laws.{Bytes, bytes-take, bytes-drop, all-ones-replicate}
 use Rattle.sector.specs.declared.EntryMapState.{EntryMapState}
 use Rattle.sector.specs.declared.EntryMapState.the-variants.{Empty, Written, Erased, Illegal}
-use Rattle.sector.specs.Layout.{entryAddress, chunks, entriesOf, mapOf}
+use Rattle.sector.specs.Layout.{entryAddress, chunks, entriesOf, mapOf, sameBytes}
 use Rattle.sector.specs.Map.{unpack, pack, statesOf}
 use Rattle.sector.proofs.Marks.{mapOf-parts, entries-parts, pack-unpack}
 use Rattle.reading.specs.Reading.{Item, keptFrom, openedStates}
-use Rattle.marks.specs.Marks.{firstPass, sameBytes, mapUnit, changedUnits}
+use Rattle.marks.specs.Marks.{firstPass, mapUnit, changedUnits}
 use Rattle.opening.specs.Opening.{keptItems, openedMap, refusedHeaders, firstMap, openingPlan}
 use Rattle.reading.proofs.Verdicts.{States, Entries}
 use Rattle.reopening.proofs.Closed.{Closed}

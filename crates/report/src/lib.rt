@@ -5,8 +5,8 @@ mod files;
 mod show;
 mod words;
 
-use cutting::Request;
 use cutting::Sector;
+use request::Request;
 use words::is_wrong;
 
 // All the cuts of an append, or why it is refused, behind a title.
@@ -76,16 +76,8 @@ fn is_whole(place: usize) -> bool {
     os::errno() == 0
 }
 
-// `print_words` of the program's arguments.
-pub fn print_arguments() {
-    if os::arg_count() != 6 {
-        words::usage();
-        return;
-    }
-    if !(is_whole(1) && is_whole(2) && is_whole(3) && is_whole(4) && is_whole(5)) {
-        words::too_long();
-        return;
-    }
+// `print_words` of five arguments.
+fn print_given() {
     let mut image = io::buffer();
     let a = os::arg(1, &mut image);
     let mut namespace = io::buffer();
@@ -103,4 +95,17 @@ pub fn print_arguments() {
         &key[..d],
         &value[..e],
     );
+}
+
+// `print_words` of the program's arguments.
+pub fn print_arguments() {
+    if os::arg_count() != 6 {
+        words::usage();
+        return;
+    }
+    if !(is_whole(1) && is_whole(2) && is_whole(3) && is_whole(4) && is_whole(5)) {
+        words::too_long();
+        return;
+    }
+    print_given();
 }

@@ -1,9 +1,9 @@
 // Standard output: the lines of a run.
 ghost use Prim.Native.Nat.{_≤_};
 use cutting::Found;
-use cutting::Request;
 use cutting::Sector;
 use libc::STDOUT_FILENO;
+use request::Request;
 use sector::Answer;
 
 pub(crate) fn text(bytes: &[u8]) {
@@ -23,23 +23,18 @@ pub(crate) fn number(value: usize) {
     io::print_decimal(STDOUT_FILENO, (value % 10) as u64);
 }
 
-// An answer's number and name, and when it comes.
+// A refusal's number and name, and when it comes: those that an append, or opening a sector, gives to a record that opening read.
 pub(crate) fn answered(answer: Answer) {
+    number(sector::answers::number_of(answer) as usize);
     match answer {
-        Answer::Done => text(b"0 Done"),
-        Answer::BadImage => text(b"1 BadImage: the image is not 4,096 bytes"),
-        Answer::BadRecord => text(b"2 BadRecord: the record is not fit to use"),
-        Answer::WrongState => text(b"3 WrongState: the page is not Active"),
+        Answer::WrongState => text(b" WrongState: the page is not Active"),
         Answer::BadRequest => text(
-            b"4 BadRequest: the type is none that an append takes, or the item has data and is in namespace 0",
+            b" BadRequest: the type is none that an append takes, or the item has data and is in namespace 0",
         ),
-        Answer::ValueTooLong => text(b"5 ValueTooLong: the item takes more than 126 entries"),
-        Answer::PageFull => text(b"6 PageFull: the item takes more entries than are free"),
-        Answer::KeyNotFound => text(b"7 KeyNotFound: there is no item at the entry"),
-        Answer::ItemTypeMismatch(_) => text(b"8 ItemTypeMismatch: the item is of another type"),
-        Answer::CorruptedData => text(b"9 CorruptedData: the header is not that of an open page"),
-        Answer::NotWritten => text(b"10 NotWritten: the entry is not Written"),
-        Answer::Stopped => text(b"11 Stopped: the append has more units"),
+        Answer::ValueTooLong => text(b" ValueTooLong: the item takes more than 126 entries"),
+        Answer::PageFull => text(b" PageFull: the item takes more entries than are free"),
+        Answer::CorruptedData => text(b" CorruptedData: the header is not that of an open page"),
+        _ => return,
     }
 }
 

@@ -11,7 +11,7 @@ use lib.Dec.{eqb, ltb, leb}
 use lib.ListN.{length, getD, drop, replicate}
 use lib.Seq.{drop-cons, drop-length}
 use borrow.Author.Tests.{lt-ltb, le-ltb, le-leb, lt-leb, leb-true}
-use Rattle.marks.specs.Marks.{sameBytes}
+use Rattle.sector.specs.Layout.{sameBytes}
 use Rattle.request.specs.declared.Number.{Number}
 use Rattle.request.specs.Words.{number, noNumber, digitOf, digitsFrom, digitsOf, isHex, numberOf, Name, orNamed, typeNames, namedAmong, typeOf}
 

@@ -8,9 +8,8 @@ use mathlib.Core.List.{List, [], _∷_, _++_}
 use Prim.Native.Nat.{ℕ, _+_, _-_, _*_}
 use lib.Dec.{eqb, leb, ltb}
 use lib.ListN.{length, take, drop, getD, replicate}
-use Rattle.marks.specs.Marks.{sameBytes}
 use Rattle.sector.specs.declared.ItemType.the-variants.{U8, I8, U16, I16, U32, I32, U64, I64, Sized, Blob, BlobData, BlobIndex, Any}
-use Rattle.sector.specs.Layout.{littleEndian}
+use Rattle.sector.specs.Layout.{littleEndian, sameBytes}
 use Rattle.sector.specs.Types.{byteOf, kindOf}
 use Rattle.request.specs.declared.Number.{Number}
 use Rattle.request.specs.declared.Parsed.{Parsed}

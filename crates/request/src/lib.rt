@@ -3,12 +3,20 @@ ghost use mathlib.Core.Path.{_≡_};
 ghost use Prim.Native.Nat.{_<_};
 ghost use Rattle.sector.specs.Layout.{littleEndian};
 ghost use Rattle.request.specs.Words.{noNumber, digitOf, digitsOf, isHex, numberOf, isKey, keyBytes, orNamed, typeOf, valueWidth, mostOf, valueOf, valueBytes, refusedFor, parsed};
-use cutting::Request;
 use types::kind_of;
 
 const NO_DIGIT: u64 = 16;
 
 const KEY_SIZE: usize = 16;
+
+// An item to append: a single entry, with its eight bytes, or data, whose bytes are lent beside it.
+pub struct Request {
+    pub single: bool,
+    pub namespace: u8,
+    pub kind: u8,
+    pub key: [u8; 16],
+    pub bytes: [u8; 8],
+}
 
 // The number that a word stands for, where it is `good`.
 pub struct Number {
@@ -154,7 +162,7 @@ fn or_named(found: Number, text: &[u8], name: &[u8], byte: u64) -> Number
     if found.good {
         return found;
     }
-    if cutting::same_bytes(text, name) {
+    if sector::bytes::same(text, name) {
         return Number {
             good: true,
             value: byte,

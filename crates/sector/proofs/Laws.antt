@@ -2,7 +2,7 @@
 -- Not here: what a run of marks does to each state (Marks).
 -- Assumes nothing.
 use mathlib.Core.Path.{_≡_, refl, sym, ap, _∙_}
-use mathlib.Core.Bool.{cond}
+use mathlib.Core.Bool.{Bool, true, false, _&&_, cond, and-false}
 use mathlib.Core.List.{List, [], _∷_, _++_, append-nil}
 use Prim.Native.Nat.{ℕ, zero, suc, _+_, _*_, _/_, _%_, _^_, _<_, _≤_}
 use native.Mathlib.Nat.{zero-add, le-of-suc-le-suc, not-suc-le-zero, div-one, div-lt-iff-lt-mul, pow-suc, pow-succ'}
@@ -10,10 +10,12 @@ use native.Mathlib.Numerals.{add-one}
 use native.Mathlib.Omega.{arith}
 use lib.ListN.{length, getD, set, take, drop, length-append, length-take, length-drop, length-set, drop-of-length-le}
 use lib.Pow.{pow-add}
-use lib.Seq.{drop-cons, drop-drop, take-at, getD-take, paste-suc}
+use lib.Dec.{eqb}
+use lib.Seq.{drop-cons, drop-length, drop-drop, take-at, getD-take, paste-suc}
+use borrow.Author.Tests.{eq-eqb, ne-eqb}
 use Rattle.sector.specs.declared.EntryMapState.{EntryMapState}
 use Rattle.sector.specs.declared.EntryMapState.the-variants.{Empty, Written, Erased, Illegal}
-use Rattle.sector.specs.Layout.{entriesPerPage, entrySize, itemsOffset, number, littleEndian, field, entryAt, chunks, entriesOf}
+use Rattle.sector.specs.Layout.{entriesPerPage, entrySize, itemsOffset, number, littleEndian, field, sameBytes, entryAt, chunks, entriesOf}
 use Rattle.sector.specs.Map.{bitsOf, stateAt, unpack, statesOf, sameState, countIn, statistics, mark, markRange}
 
 -- ---- little-endian numbers
@@ -32,6 +34,31 @@ number-littleEndian (suc n) x h =
 pub field-cons : (offset n : ℕ) (bytes : List ℕ) → offset < length bytes
     → field offset (suc n) bytes ≡ getD bytes offset 0 ∷ field (offset + 1) n bytes
 field-cons offset n bytes h = rw (drop-cons bytes offset 0 h, add-one offset)
+
+-- ---- bytes compared, from k on, one after the other
+
+-- lists of two lengths are not the same
+pub same-bytes-length : (xs ys : List ℕ) → (length xs ≡ length ys → ⊥) → sameBytes xs ys ≡ false
+same-bytes-length [] [] h = absurd (h refl)
+same-bytes-length [] (y ∷ ys) h = ne-eqb _ _ (λ e. h (sym e))
+same-bytes-length (x ∷ xs) [] h = refl
+same-bytes-length (x ∷ xs) (y ∷ ys) h =
+    ap (λ (b : Bool). eqb x y && b) (same-bytes-length xs ys (λ e. h (ap suc e))) ∙ and-false (eqb x y)
+
+module _ (xs ys : List ℕ) (k : ℕ) (inside : k < length xs) (within : k < length ys) where
+  -- two lists from k on: their first elements, and what is behind them
+  same-bytes-drop : sameBytes (drop k xs) (drop k ys) ≡ (eqb (getD xs k 0) (getD ys k 0) && sameBytes (drop (k + 1) xs) (drop (k + 1) ys))
+  same-bytes-drop = rw (add-one k, drop-cons xs k 0 inside, drop-cons ys k 0 within)
+
+  pub same-bytes-pass : getD xs k 0 ≡ getD ys k 0 → sameBytes (drop k xs) (drop k ys) ≡ sameBytes (drop (k + 1) xs) (drop (k + 1) ys)
+  same-bytes-pass e = same-bytes-drop ∙ ap (λ (b : Bool). b && sameBytes (drop (k + 1) xs) (drop (k + 1) ys)) (eq-eqb _ _ e)
+
+  pub same-bytes-differ : (getD xs k 0 ≡ getD ys k 0 → ⊥) → sameBytes (drop k xs) (drop k ys) ≡ false
+  same-bytes-differ h = same-bytes-drop ∙ ap (λ (b : Bool). b && sameBytes (drop (k + 1) xs) (drop (k + 1) ys)) (ne-eqb _ _ h)
+
+-- two lists that end at k
+pub same-bytes-end : (xs ys : List ℕ) (k : ℕ) → k ≡ length xs → length xs ≡ length ys → sameBytes (drop k xs) (drop k ys) ≡ true
+same-bytes-end xs ys k e f = rw (e, drop-length xs, f, drop-length ys)
 
 -- ---- the entries of an image
 

@@ -1,11 +1,13 @@
 -- The sector (01, 'The sector'): where each part of an image lies.
 --
--- In order: sizes; little-endian numbers; the parts of an image; the fields of an entry.
+-- In order: sizes; little-endian numbers; bytes compared; the parts of an image; the fields of an entry.
 -- An image is the list of its bytes. Not here: what the fields mean (Header, Map, Types, Item).
 -- Assumes nothing.
+use mathlib.Core.Bool.{Bool, false, _&&_}
 use mathlib.Core.List.{List, [], _∷_}
 use Prim.Native.Nat.{ℕ, zero, suc, _+_, _*_, _/_, _%_}
-use lib.ListN.{take, drop, getD}
+use lib.Dec.{eqb}
+use lib.ListN.{length, take, drop, getD}
 
 -- ---- sizes
 
@@ -45,6 +47,14 @@ littleEndian (suc n) x = x % 256 ∷ littleEndian n (x / 256)
 -- size bytes from an offset on
 abbrev pub field : ℕ → ℕ → List ℕ → List ℕ
 field offset size bytes = take size (drop offset bytes)
+
+-- ---- bytes compared
+
+-- as many, and the same
+abbrev pub sameBytes : List ℕ → List ℕ → Bool
+sameBytes [] ys = eqb (length ys) 0
+sameBytes (x ∷ xs) [] = false
+sameBytes (x ∷ xs) (y ∷ ys) = eqb x y && sameBytes xs ys
 
 -- ---- the parts of an image
 

@@ -3,7 +3,7 @@ ghost use mathlib.Core.Path.{_≡_};
 ghost use mathlib.Core.List.{[], _∷_, _++_};
 ghost use Prim.Native.Nat.{_+_, _≤_};
 ghost use lib.ListN.{length, take, drop};
-ghost use Rattle.sector.specs.Layout.{number, field, littleEndian};
+ghost use Rattle.sector.specs.Layout.{number, field, littleEndian, sameBytes};
 
 // The four bytes of a number, lowest first (`u32::to_le_bytes`).
 pub fn little_endian(word: u32) -> [u8; 4]
@@ -47,4 +47,21 @@ pub fn put(out: &mut [u8], offset: usize, bytes: &[u8])
     for k in 0..bytes.len() {
         out[offset + k] = bytes[k];
     }
+}
+
+// Whether two lists of bytes are the same.
+pub fn same(first: &[u8], second: &[u8]) -> bool
+    ensures { λ r. ⌜ r ≡ sameBytes (now (first .entry)) (now (second .entry)) ⌝ }
+{
+    if first.len() != second.len() {
+        return false;
+    }
+    let mut i = 0;
+    while i < first.len() {
+        if first[i] != second[i] {
+            return false;
+        }
+        i += 1;
+    }
+    true
 }

@@ -20,7 +20,7 @@ use Rattle.sector.specs.declared.PageState.the-variants.{Active, Full}
 use Rattle.sector.specs.Answers.{numberOf}
 use Rattle.sector.specs.Header.{wordOf}
 use Rattle.sector.specs.Item.{itemBytes, sizedData, crcStart}
-use Rattle.sector.specs.Layout.{sectorSize, entryAddress, entryAt, mapOf, littleEndian, typeByteOf, spanOf}
+use Rattle.sector.specs.Layout.{sectorSize, entryAddress, entryAt, mapOf, littleEndian, typeByteOf, spanOf, sameBytes}
 use Rattle.sector.specs.Map.{bitsOf, stateAt, markRange}
 use Rattle.header.specs.Calls.{initialised, initialiseImage}
 use Rattle.append.specs.declared.Single.{Single}
@@ -30,7 +30,6 @@ use Rattle.erase.specs.Erase.{eraseImage}
 use Rattle.purge.specs.Purge.{purgePlan}
 use Rattle.payload.specs.Payload.{dataAnswer}
 use Rattle.load.specs.Load.{loadItem}
-use Rattle.marks.specs.Marks.{sameBytes}
 use Rattle.opening.specs.Opening.{keptItems, openingImage}
 
 -- ---- pages and requests

@@ -6,7 +6,7 @@ use Prim.Native.Nat.{ℕ, _+_, _-_, _≤_}
 use native.Mathlib.Omega.{arith}
 use borrow.Author.Needs.{needs}
 use borrow.Author.Tests.{not-true, not-false}
-use Rattle.cutting.specs.declared.Request.{Request}
+use Rattle.request.specs.declared.Request.{Request}
 use Rattle.cutting.specs.declared.Sector.{Sector}
 use Rattle.cutting.specs.Cutting.{foundAfter, sameFound, firstNot, lastAlike}
 use Rattle.cutting.proofs.Laws.{same-found, same-of, alike-one, alike-more, first-pass, first-here, first-end}

@@ -20,29 +20,29 @@ mul-end c = search needs
 add-end : tie.Need-add-end
 add-end c = search needs
 
-sub-same-bytes : tie.Need-sub-same-bytes
-sub-same-bytes c = search needs
+sub-same : tie.Need-sub-same
+sub-same c = search needs
 
-part-same-bytes-start : tie.Need-part-same-bytes-start
-part-same-bytes-start c = search needs
+part-same-start : tie.Need-part-same-start
+part-same-start c = search needs
 
-part-same-bytes-end : tie.Need-part-same-bytes-end
-part-same-bytes-end c = search needs
+part-same-end : tie.Need-part-same-end
+part-same-end c = search needs
 
-sub-same-bytes-2 : tie.Need-sub-same-bytes-2
-sub-same-bytes-2 c = search needs
+sub-same-2 : tie.Need-sub-same-2
+sub-same-2 c = search needs
 
-part-same-bytes-start-2 : tie.Need-part-same-bytes-start-2
-part-same-bytes-start-2 c = search needs
+part-same-start-2 : tie.Need-part-same-start-2
+part-same-start-2 c = search needs
 
-part-same-bytes-end-2 : tie.Need-part-same-bytes-end-2
-part-same-bytes-end-2 c = search needs
+part-same-end-2 : tie.Need-part-same-end-2
+part-same-end-2 c = search needs
 
-same-bytes-requires : tie.Need-same-bytes-requires
-same-bytes-requires c κs = search needs
+same-requires : tie.Need-same-requires
+same-requires c κs = search needs
 
 returns-2 : tie.Need-returns-2
-returns-2 c = rw (le-leb _ _ (c .before .before .before .before .before .if1 .left), ← part-length (c .before .before .before .before .before .before .args .count)) (c .same-bytes .ensures)
+returns-2 c = rw (le-leb _ _ (c .before .before .before .before .before .if1 .left), ← part-length (c .before .before .before .before .before .before .args .count)) (c .same .ensures)
 
 pub same-entries-spec : {M : Type 1} → statement M
 same-entries-spec =
@@ -51,11 +51,11 @@ same-entries-spec =
     returns
     mul-end
     add-end
-    sub-same-bytes
-    part-same-bytes-start
-    part-same-bytes-end
-    sub-same-bytes-2
-    part-same-bytes-start-2
-    part-same-bytes-end-2
-    same-bytes-requires
+    sub-same
+    part-same-start
+    part-same-end
+    sub-same-2
+    part-same-start-2
+    part-same-end-2
+    same-requires
     returns-2)

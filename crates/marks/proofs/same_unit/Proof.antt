@@ -7,7 +7,8 @@ use native.Mathlib.Omega.{arith}
 use borrow.Author.Needs.{needs}
 use borrow.Author.Tests.{eq-eqb, ne-eqb}
 use lib.ListN.{getD}
-use Rattle.marks.specs.Marks.{sameBytes, mapUnit}
+use Rattle.sector.specs.Layout.{sameBytes}
+use Rattle.marks.specs.Marks.{mapUnit}
 use Rattle.marks.proofs.Passes.{unit-bytes}
 use Rattle.marks.proofs.same_unit.Statement.{statement}
 use Rattle.marks.proofs.same_unit.Tie as tie

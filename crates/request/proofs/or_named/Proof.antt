@@ -9,20 +9,20 @@ returns : tie.Need-returns
 unfolding orNamed
 returns c = search needs
 
-same-bytes-requires : tie.Need-same-bytes-requires
-same-bytes-requires c κs = search needs
+same-requires : tie.Need-same-requires
+same-requires c κs = search needs
 
 returns-2 : tie.Need-returns-2
 unfolding orNamed
-returns-2 c = rw (c .before .before .if1 .left, sym (c .before .same-bytes .ensures) ∙ c .if2 .taken)
+returns-2 c = rw (c .before .before .if1 .left, sym (c .before .same .ensures) ∙ c .if2 .taken)
 
 no-number-requires : tie.Need-no-number-requires
 no-number-requires c κs = search needs
 
 returns-3 : tie.Need-returns-3
 unfolding orNamed
-returns-3 c = rw (c .before .before .before .if1 .left, sym (c .before .before .same-bytes .ensures) ∙ c .before .if2 .left) (c .no-number .ensures)
+returns-3 c = rw (c .before .before .before .if1 .left, sym (c .before .before .same .ensures) ∙ c .before .if2 .left) (c .no-number .ensures)
 
 pub or-named-spec : {M : Type 1} → statement M
 or-named-spec =
-    tie.close (tie.spec returns same-bytes-requires returns-2 no-number-requires returns-3)
+    tie.close (tie.spec returns same-requires returns-2 no-number-requires returns-3)

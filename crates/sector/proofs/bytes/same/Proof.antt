@@ -1,13 +1,13 @@
--- `same_bytes` meets its contract: the bytes passed are the same, so those behind them decide.
+-- `bytes::same` meets its contract: the bytes passed are the same, so those behind them decide.
 use mathlib.Core.Path.{_≡_, refl, sym, _∙_}
 use Prim.Native.Nat.{_≤_, _-_}
 use native.Mathlib.Omega.{arith}
 use borrow.Author.Needs.{needs}
 use lib.ListN.{length, drop}
-use Rattle.marks.specs.Marks.{sameBytes}
-use Rattle.cutting.proofs.Laws.{same-bytes-length, same-bytes-pass, same-bytes-differ, same-bytes-end}
-use Rattle.cutting.proofs.same_bytes.Statement.{statement}
-use Rattle.cutting.proofs.same_bytes.Tie as tie
+use Rattle.sector.specs.Layout.{sameBytes}
+use Rattle.sector.proofs.Laws.{same-bytes-length, same-bytes-pass, same-bytes-differ, same-bytes-end}
+use Rattle.sector.proofs.bytes.same.Statement.{statement}
+use Rattle.sector.proofs.bytes.same.Tie as tie
 
 abbrev Inv-loop : tie.InvT-loop
 Inv-loop first second i₀ i = (i ≤ length first) × (sameBytes (drop i first) (drop i second) ≡ sameBytes first second)
@@ -42,8 +42,8 @@ loop-again c = let at = c .before .before .before .before in let start = at .bef
 returns-3 : tie.Need-returns-3 Inv-loop μ-loop
 returns-3 c = let at = c .before in let start = at .before .before in sym (same-bytes-end (start .args .first .now) (start .args .second .now) (at .loop .i) (omega arith) (omega arith)) ∙ at .loop .inv .1
 
-pub same-bytes-spec : {M : Type 1} → statement M
-same-bytes-spec =
+pub same-spec : {M : Type 1} → statement M
+same-spec =
     tie.close
     (tie.spec
     Inv-loop
