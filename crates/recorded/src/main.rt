@@ -1,17 +1,12 @@
 // Replays the recorded answers of the Rust through the C functions, and prints how many cases agree.
 //
 // The file comes on standard input; `compare/RECORDED.md` has its format, and how it is made.
-mod buffers;
-mod calls;
-mod frame;
-mod head;
-mod numbers;
 mod replay;
-mod request;
 mod show;
 mod tally;
 
-use head::Head;
+use frames::head;
+use frames::head::Head;
 
 fn main() {
     match head::read() {

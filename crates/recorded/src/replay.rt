@@ -2,17 +2,16 @@
 ghost use mathlib.Core.Path.{_≡_};
 ghost use mathlib.Core.Bool.{true};
 ghost use lib.ListN.{length, take};
-ghost use Rattle.recorded.specs.Buffers.{allSize, changedSize};
-use crate::buffers::ALL;
-use crate::buffers::CHANGED;
-use crate::buffers::IMAGE;
-use crate::calls;
-use crate::frame;
-use crate::frame::Frame;
-use crate::frame::Status;
+ghost use Rattle.frames.specs.Buffers.{allSize, changedSize};
 use crate::tally;
 use crate::tally::NONE;
 use crate::tally::Tally;
+use frames::buffers::ALL;
+use frames::buffers::CHANGED;
+use frames::buffers::IMAGE;
+use frames::frame;
+use frames::frame::Frame;
+use frames::frame::Status;
 use libc::STDIN_FILENO;
 
 const FRAME_SIZE: usize = 8;

@@ -1,8 +1,8 @@
 // Standard output: the lines of a replay.
-use crate::frame::Status;
 use crate::replay::Replayed;
 use crate::tally::NONE;
 use crate::tally::Tally;
+use frames::frame::Status;
 use libc::STDOUT_FILENO;
 
 const NAME_SIZE: usize = 20;
