@@ -55,7 +55,7 @@ pageOf header map front items =
       list = padded (listedItems items);
     }
 
-count-empties : (s : EntryMapState) (n : ℕ) → sameState s Empty ≡ false → countIn s (replicate n Empty) ≡ 0
+pub count-empties : (s : EntryMapState) (n : ℕ) → sameState s Empty ≡ false → countIn s (replicate n Empty) ≡ 0
 unfolding countIn
 count-empties s zero e = refl
 count-empties s (suc n) e = rw (e, count-empties s n e)

@@ -27,7 +27,7 @@ use Rattle.power_cut.proofs.AtHand.{field-front}
 
 -- ---- what decides
 
-open-initialized : (s : PageState) → isOpenState s ≡ true → isUninitialized s ≡ false
+pub open-initialized : (s : PageState) → isOpenState s ≡ true → isUninitialized s ≡ false
 open-initialized Uninitialized e = sym e
 open-initialized Active e = refl
 open-initialized Full e = refl

@@ -13,5 +13,7 @@ pub mod Held
 pub mod Steps
 pub mod Erasing
 pub mod Demand
+pub mod FitAtHand
+pub mod Loaded
 pub mod OpeningCut
 pub mod InitialiseCut

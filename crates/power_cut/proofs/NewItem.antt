@@ -131,7 +131,7 @@ module _ (request : Variable) (payload : List ℕ) (asked : VariableRequest requ
   unfolding itemBytes
   new-data = drop-at (request .key) (sizedData payload) 16 (asked .key-size)
 
-  new-size : sizeOf (variableHeader request payload) ≡ length payload
+  pub new-size : sizeOf (variableHeader request payload) ≡ length payload
   unfolding sizedData
   new-size = ap (λ (field : List ℕ). number (take 2 field)) new-data ∙ number-littleEndian 2 (length payload) small
 
@@ -149,7 +149,7 @@ module _ (request : Variable) (payload : List ℕ) (asked : VariableRequest requ
   room = omega arith
 
   -- the payload is the start of its entries
-  payload-there : take (length payload) (joined (payloadEntries behind payload)) ≡ payload
+  pub payload-there : take (length payload) (joined (payloadEntries behind payload)) ≡ payload
   payload-there =
       let filled = payload ++ replicate (32 * behind - length payload) 0xFF in
       ap (take (length payload)) (joined-chunks behind filled)
@@ -171,7 +171,7 @@ module _ (request : Variable) (payload : List ℕ) (asked : VariableRequest requ
   unfolding itemBytes
   header-covers = refl
 
-  header-typed : isPayload (variableHeader request payload) ≡ true
+  pub header-typed : isPayload (variableHeader request payload) ≡ true
   unfolding itemBytes
   header-typed = typed
 

@@ -16,15 +16,19 @@ use lib.ListN.{length, take, getD, replicate}
 use Rattle.flash.specs.Flash.{run}
 use Rattle.page.specs.declared.Outcome.{Outcome}
 use Rattle.page.specs.declared.ThinPage.{ThinPage}
-use Rattle.page.specs.Record.{nextFree, uninitialized}
+use Rattle.page.specs.Record.{nextFree, fitToUse, uninitialized}
 use Rattle.page.specs.Writing.{answered}
 use Rattle.sector.specs.declared.Answer.the-variants.{Done, CorruptedData, Stopped}
 use Rattle.sector.specs.Layout.{sectorSize, entriesPerPage, entryAt}
+use Rattle.sector.specs.Types.{itemType, hasPayload, sanitized}
+use Rattle.load.specs.Load.{loadItem}
+use Rattle.payload.specs.Payload.{roundedUp, dataAnswer, dataOutput}
+use Rattle.append.specs.declared.Variable.{Variable}
 use Rattle.header.specs.Calls.{initialiseImage, initialisePlan}
 use Rattle.erase.specs.Erase.{erase, eraseImage}
 use Rattle.reading.specs.Reading.{Item, item}
-use Rattle.opening.specs.Opening.{headerVerdictOf, keptItems, planFor, opening, openingImage}
-use Rattle.power_cut.specs.History.{Sector, Write, outcomeOf, imageOf, entriesOfWrite, entryUnits, newItem, withoutItem, History}
+use Rattle.opening.specs.Opening.{headerVerdictOf, headerOf, keptItems, planFor, opening, openingImage}
+use Rattle.power_cut.specs.History.{Sector, VariableRequest, Write, a-variable, outcomeOf, imageOf, entriesOfWrite, entryUnits, newItem, withoutItem, History}
 
 -- ---- the demand
 
@@ -33,6 +37,28 @@ abbrev pub FindsWhatWasPut : Type 0
 FindsWhatWasPut =
     (image : List ℕ) (page : ThinPage) (items : List Item) → History image page items
     → (keptItems image ≡ items) × (opening image ≡ answered Done page) × (openingImage image ≡ image)
+
+-- each item put and not erased loads by its index
+abbrev pub LoadsWhatWasPut : Type 0
+LoadsWhatWasPut =
+    (image : List ℕ) (page : ThinPage) (items : List Item) → History image page items
+    → (index : ℕ) (entries : List (List ℕ)) → List·Memᴰ (item index entries) items
+    → loadItem image index ≡ record { answer = Done; item = sanitized (headerOf entries) }
+
+-- and data with its bytes, into any output that takes them
+abbrev pub LoadsData : Type 0
+LoadsData =
+    (image : List ℕ) (page : ThinPage) (items : List Item) → History image page items
+    → (request : Variable) (payload : List ℕ) (ok : VariableRequest request payload) (index : ℕ)
+    → hasPayload (itemType (request .kind)) ≡ true
+    → List·Memᴰ (item index (entriesOfWrite (a-variable request payload ok))) items
+    → (output : List ℕ) → roundedUp (length payload) ≤ length output
+    → (dataAnswer image index (length output) ≡ record { answer = Done; size = length payload })
+    × (take (length payload) (dataOutput image index output) ≡ payload)
+
+-- the record at hand is fit to use, right after opening too: no call refuses it as BadRecord
+abbrev pub RecordIsFit : Type 0
+RecordIsFit = (image : List ℕ) (page : ThinPage) (items : List Item) → History image page items → fitToUse page ≡ true
 
 -- a write begins: no check refuses it
 abbrev pub Begins : Write → List ℕ → ThinPage → ℕ → Type 0

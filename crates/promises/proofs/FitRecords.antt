@@ -57,7 +57,7 @@ erasable-known Corrupt h = refl
 erasable-known Invalid h = refl
 
 -- a page that is not Uninitialized owes no blank record
-known-fits : (page : ThinPage) → isUninitialized (page .state) ≡ false → blankFits page ≡ true
+pub known-fits : (page : ThinPage) → isUninitialized (page .state) ≡ false → blankFits page ≡ true
 known-fits page h = rw h
 
 -- ---- another state
@@ -180,7 +180,7 @@ length-without index (place ∷ places) = by-test (eqb (place .index) index) (le
     by-test true r = omega arith
     by-test false r = omega arith
 
-zero-places : (n : ℕ) → every placeZero (replicate n noItem) ≡ true
+pub zero-places : (n : ℕ) → every placeZero (replicate n noItem) ≡ true
 zero-places zero = refl
 zero-places (suc n) = zero-places n
 
@@ -213,7 +213,7 @@ module _ (page : ThinPage) (index span : ℕ) (code : AsInCode page) (f : Fit pa
 
 -- ---- each call
 
-hash-short : (namespace : ℕ) (key : List ℕ) (chunk : ℕ) → hashOf namespace key chunk < 2 ^ 24
+pub hash-short : (namespace : ℕ) (key : List ℕ) (chunk : ℕ) → hashOf namespace key chunk < 2 ^ 24
 unfolding hashOf
 hash-short namespace key chunk = omega arith
 
