@@ -1,6 +1,8 @@
 -- `with_single` meets its contract: an item of one entry, under its own hash.
 -- Assumes nothing.
+use mathlib.Core.Path.{ap, _∙_}
 use borrow.Author.Needs.{needs}
+use Rattle.page.specs.Record.{withItem}
 use Rattle.append.proofs.with_single.Statement.{statement}
 use Rattle.append.proofs.with_single.Tie as tie
 
@@ -11,7 +13,7 @@ with-item-requires : tie.Need-with-item-requires
 with-item-requires c κs = search needs
 
 returns : tie.Need-returns
-returns c = cc
+returns c = c .with-item .ensures ∙ ap (withItem _ _ _) (c .before .calculate-hash .ensures)
 
 pub with-single-spec : {M : Type 1} → statement M
 with-single-spec = tie.close (tie.spec calculate-hash-requires with-item-requires returns)
