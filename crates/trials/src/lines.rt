@@ -1,54 +1,34 @@
-// A line for what a call gave.
-ghost use Prim.Native.Nat.{_<_};
-use crate::records::Given;
-use page::ThinPage;
+// A line for what a call left.
+use crate::records::Sector;
 
-fn counts(page: ThinPage) {
-    show::number(b", used ", show::wide(page.used));
-    show::number(b", erased ", show::wide(page.erased));
-    show::number(b", listed ", show::wide(page.len));
+fn print_counts(used: u8, erased: u8) {
+    show::number(b", used ", show::wide(used));
+    show::number(b", erased ", show::wide(erased));
 }
 
-// What a page holds: the counts, the first byte of the state word, and a byte of the map as record and image have it.
-pub fn held(image: [u8; 4096], page: ThinPage, at: usize)
-    requires { ⌜ at < 32 ⌝ }
-{
-    counts(page);
-    show::byte(b", state ", image[0]);
+// The page that a call is tried on: the first byte of its state word, and its counts.
+pub(crate) fn print_page(state: u8, used: u8, erased: u8) {
+    show::byte(b", on state ", state);
+    print_counts(used, erased);
+}
+
+fn print_bytes(listed: u8, state: u8, at: usize, kept: u8, written: u8) {
+    show::number(b", listed ", show::wide(listed));
+    show::byte(b", state ", state);
+    show::number(b", map byte ", at as u64);
+    show::byte(b" ", kept);
+    show::byte(b" ", written);
+    show::text(b"\n");
+}
+
+// The answer, the counts, the first byte of the state word, and a byte of the map as record and image have it.
+pub(crate) fn print(sector: Sector, at: usize) {
+    let answer = sector.answer;
+    show::answered(b": answer ", answer);
+    let page = sector.page;
+    print_counts(page.used, page.erased);
+    let image = sector.image;
     let map = page.map;
-    show::byte(b", map ", map[at]);
-    show::byte(b" ", image[32 + at]);
-    show::text(b"\n");
-}
-
-pub fn print_units(name: &[u8], given: Given) {
-    show::text(name);
-    let answer = given.answer;
-    show::answered(b": answer ", answer);
-    show::number(b", units ", given.units as u64);
-    show::text(b"\n");
-}
-
-pub fn print_page(name: &[u8], given: Given, at: usize)
-    requires { ⌜ at < 32 ⌝ }
-{
-    show::text(name);
-    let answer = given.answer;
-    show::answered(b": answer ", answer);
-    show::number(b", units ", given.units as u64);
-    let image = given.image;
-    let page = given.page;
-    held(image, page, at);
-}
-
-// For a call that is never stopped.
-pub fn print_left(name: &[u8], given: Given, at: usize)
-    requires { ⌜ at < 32 ⌝ }
-{
-    show::text(name);
-    let answer = given.answer;
-    show::answered(b": answer ", answer);
-    let image = given.image;
-    let page = given.page;
-    held(image, page, at);
+    let place = at % 32;
+    print_bytes(page.len, image[0], place, map[place], image[32 + place]);
 }

@@ -1,32 +1,21 @@
-// Pages to try the calls on, and what a call gives.
-use append::Single;
-use append::Variable;
+// Pages to try the calls on.
+use crate::calls;
+use crate::calls::Call;
 use page::Listed;
 use page::ThinPage;
 use sector::Answer;
 use sector::PageState;
 
-pub const STOPPED: u8 = 11;
-
-// More units than any call has.
-pub const MOST: usize = 1100;
-
-pub struct Sector {
-    pub image: [u8; 4096],
-    pub page: ThinPage,
-}
-
-// A call's answer at the first n at which it is not stopped, that n (0 for a call that takes none), and what it left.
-pub struct Given {
+// A page, and what the call that left it so answered.
+pub(crate) struct Sector {
     pub answer: Answer,
-    pub units: usize,
     pub image: [u8; 4096],
     pub page: ThinPage,
 }
 
-pub fn uninitialized() -> ThinPage {
+fn blank() -> Sector {
     let place = Listed { hash: 0, index: 0 };
-    ThinPage {
+    let page = ThinPage {
         state: PageState::Uninitialized,
         sequence: 0,
         version: 0,
@@ -36,51 +25,47 @@ pub fn uninitialized() -> ThinPage {
         erased: 0,
         len: 0,
         list: [place; 126],
+    };
+    Sector {
+        answer: Answer::Done,
+        image: [0xFF; 4096],
+        page,
     }
 }
 
-pub fn fresh() -> Sector {
-    let mut image = [0xFFu8; 4096];
-    let outcome = header::initialize(&mut image, uninitialized(), 1, 8);
-    let page = outcome.page;
-    Sector { image, page }
+// A page with nothing in it whose state word has this first byte: 0xFF Uninitialized, 0xFE Active, 0xFC Full.
+pub(crate) fn empty(state: u8) -> Sector {
+    let blank = blank();
+    if state == 0xFF {
+        return blank;
+    }
+    let active = calls::after(blank, Call::Initialise, 8);
+    if state == 0xFE {
+        return active;
+    }
+    calls::after(active, Call::MarkFull, 0)
 }
 
-// A fresh page of whose record these entries are used and erased, and whose map has this last byte.
-pub fn filled(used: u8, erased: u8, last: u8) -> Sector {
-    let sector = fresh();
-    let image = sector.image;
+// The last byte of a map in which this many entries are Written: it holds entries 124 and 125.
+fn last_byte(used: u8) -> u8 {
+    if used < 125 {
+        return 0xFF;
+    }
+    if used == 125 {
+        return 0xFE;
+    }
+    0xFA
+}
+
+// The same, of whose record these entries are used and erased.
+pub(crate) fn filled(state: u8, used: u8, erased: u8) -> Sector {
+    let mut sector = empty(state);
     let mut page = sector.page;
     let mut map = page.map;
-    map[31] = last;
+    map[31] = last_byte(used);
     page.map = map;
     page.used = used;
     page.erased = erased;
-    Sector { image, page }
-}
-
-pub fn single() -> Single {
-    Single {
-        namespace: 1,
-        kind: 0x01,
-        span: 1,
-        chunk: 255,
-        key: [0x6B; 16],
-        bytes: [0x42; 8],
-    }
-}
-
-pub fn variable() -> Variable {
-    Variable {
-        namespace: 1,
-        kind: 0x21,
-        chunk: 255,
-        key: [0x76; 16],
-    }
-}
-
-pub fn after(given: Given) -> Sector {
-    let image = given.image;
-    let page = given.page;
-    Sector { image, page }
+    sector.page = page;
+    sector
 }

@@ -1,23 +1,20 @@
--- `headers::initialize_units` is safe and ends: n rises, and stays below 1,100.
+-- `units::units` is safe and ends: n rises, and stays below 1,100.
 use Prim.Native.Nat.{_-_}
 use borrow.Author.Needs.{needs}
-use Rattle.edges.proofs.headers.initialize_units.Statement.{statement}
-use Rattle.edges.proofs.headers.initialize_units.Tie as tie
+use Rattle.trials.proofs.units.units.Statement.{statement}
+use Rattle.trials.proofs.units.units.Tie as tie
 
 abbrev Inv-loop : tie.InvT-loop
-Inv-loop sector n₀ n = Unit
+Inv-loop sector call n₀ n = Unit
 
 abbrev μ-loop : tie.MeasureT-loop
-μ-loop sector n₀ n = 1100 - n
+μ-loop sector call n₀ n = 1100 - n
 
 loop-holds : tie.Need-loop-holds Inv-loop μ-loop
 loop-holds c = search needs
 
-slice-aggregate-initialize : tie.Need-slice-aggregate-initialize Inv-loop μ-loop
-slice-aggregate-initialize c = search needs
-
-initialize-requires : tie.Need-initialize-requires Inv-loop μ-loop
-initialize-requires c κs = search needs
+after-requires : tie.Need-after-requires Inv-loop μ-loop
+after-requires c κs = search needs
 
 number-of-requires : tie.Need-number-of-requires Inv-loop μ-loop
 number-of-requires c κs = search needs
@@ -37,15 +34,14 @@ loop-again c = search needs
 returns-2 : tie.Need-returns-2 Inv-loop μ-loop
 returns-2 c = search needs
 
-pub initialize-units-spec : {M : Type 1} → statement M
-initialize-units-spec =
+pub units-spec : {M : Type 1} → statement M
+units-spec =
     tie.close
     (tie.spec
     Inv-loop
     μ-loop
     loop-holds
-    slice-aggregate-initialize
-    initialize-requires
+    after-requires
     number-of-requires
     returns
     add-n

@@ -1,0 +1,46 @@
+// Calls cut by a stop, and what opening then finds.
+use crate::calls;
+use crate::calls::Call;
+use crate::lines;
+use crate::records;
+use crate::records::Sector;
+
+fn open(sector: Sector, at: usize) -> Sector {
+    let opened = calls::after(sector, Call::Open, 0);
+    show::text(b"then opened");
+    lines::print(opened, at);
+    opened
+}
+
+pub fn initialise(n: usize) {
+    show::number(b"initialise, cut at ", n as u64);
+    let cut = calls::after(records::empty(0xFF), Call::Initialise, n);
+    lines::print(cut, 0);
+    open(cut, 0);
+}
+
+fn fifteen_singles() -> Sector {
+    let mut sector = records::empty(0xFE);
+    for chunk in 0..15u8 {
+        let single = Call::Single {
+            kind: 0x01,
+            span: 1,
+            chunk,
+        };
+        sector = calls::after(sector, single, 9);
+    }
+    sector
+}
+
+pub fn data(n: usize) {
+    show::number(b"32 bytes at next free 15, cut at ", n as u64);
+    let call = Call::Variable {
+        namespace: 1,
+        kind: 0x21,
+        length: 32,
+        byte: 0x42,
+    };
+    let cut = calls::after(fifteen_singles(), call, n);
+    lines::print(cut, 3);
+    open(open(cut, 3), 4);
+}

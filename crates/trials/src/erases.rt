@@ -1,0 +1,31 @@
+// Erase: data of a page, and entries that are none.
+use crate::calls;
+use crate::calls::Call;
+use crate::lines;
+use crate::records;
+
+fn print_name(state: u8, length: usize, before: usize, index: usize, span: usize) {
+    show::number(b"erase, data of length ", length as u64);
+    show::byte(b" on state ", state);
+    show::number(b", erased before ", before as u64);
+    show::number(b", index ", index as u64);
+    show::number(b", span ", span as u64);
+}
+
+// On a page with data of this length, where its state lets one append, of which entries were erased before: 0 is none.
+pub fn erase(state: u8, length: usize, before: usize, index: usize, span: usize) {
+    print_name(state, length, before, index, span);
+    let data = Call::Variable {
+        namespace: 1,
+        kind: 0x21,
+        length,
+        byte: 0x42,
+    };
+    let written = calls::after(records::empty(state), data, 1100);
+    let first = Call::Erase {
+        index: 0,
+        span: before,
+    };
+    let sector = calls::after(written, first, 0);
+    lines::print(calls::after(sector, Call::Erase { index, span }, 0), 0);
+}

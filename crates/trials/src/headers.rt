@@ -1,0 +1,21 @@
+// Initialise and mark full.
+use crate::calls;
+use crate::calls::Call;
+use crate::lines;
+use crate::records;
+use crate::units;
+
+// An image that ends in this byte.
+pub fn initialise(state: u8, last: u8) {
+    show::byte(b"initialise, last byte ", last);
+    lines::print_page(state, 0, 0);
+    let mut sector = records::empty(state);
+    sector.image[4095] = last;
+    units::print_on(sector, Call::Initialise, 0);
+}
+
+pub fn mark_full(state: u8) {
+    show::text(b"mark full");
+    lines::print_page(state, 0, 0);
+    lines::print(calls::after(records::empty(state), Call::MarkFull, 0), 0);
+}
