@@ -5,113 +5,108 @@ use page::ThinPage;
 use page::fit;
 use sector::PageState;
 
-fn print_fit(name: &[u8], page: ThinPage) {
-    show::text(b"record, ");
-    show::text(name);
-    if fit::fit_to_use(page) {
-        show::text(b": fit\n");
-    } else {
-        show::text(b": not fit\n");
-    }
-}
-
-// An Active record whose map is blank and whose places are all zero.
-fn counted(used: u8, erased: u8, len: u8) -> ThinPage {
-    let place = Listed { hash: 0, index: 0 };
-    ThinPage {
-        state: PageState::Active,
-        sequence: 1,
-        version: 0xFE,
-        crc: 1,
-        map: [0xFF; 32],
+// For a map that is blank but for its first byte, and places that are zero but for one.
+fn is_fit(
+    state: PageState,
+    sequence: u32,
+    version: u8,
+    crc: u32,
+    map: u8,
+    used: u8,
+    erased: u8,
+    len: u8,
+    at: usize,
+    hash: u32,
+    index: u8,
+) -> bool
+    requires { ⌜ at < 126 ⌝ }
+{
+    let mut bytes = [0xFFu8; 32];
+    bytes[0] = map;
+    let zero = Listed { hash: 0, index: 0 };
+    let mut list = [zero; 126];
+    list[at] = Listed { hash, index };
+    fit::fit_to_use(ThinPage {
+        state,
+        sequence,
+        version,
+        crc,
+        map: bytes,
         used,
         erased,
         len,
-        list: [place; 126],
-    }
+        list,
+    })
 }
 
-fn blank() -> ThinPage {
-    let place = Listed { hash: 0, index: 0 };
-    ThinPage {
-        state: PageState::Uninitialized,
-        sequence: 0,
-        version: 0,
-        crc: 0,
-        map: [0xFF; 32],
-        used: 0,
-        erased: 0,
-        len: 0,
-        list: [place; 126],
-    }
-}
-
-fn with_place(page: ThinPage, at: usize, hash: u32, index: u8) -> ThinPage
-    requires { ⌜ at < 126 ⌝ }
-{
-    let mut list = page.list;
-    list[at] = Listed { hash, index };
-    let mut changed = page;
-    changed.list = list;
-    changed
-}
-
-fn with_first_map_byte(page: ThinPage, byte: u8) -> ThinPage {
-    let mut map = page.map;
-    map[0] = byte;
-    let mut changed = page;
-    changed.map = map;
-    changed
-}
-
-fn print_counts() {
-    print_fit(b"used 100, erased 26", counted(100, 26, 0));
-    print_fit(b"used 100, erased 27", counted(100, 27, 0));
-    print_fit(b"used 255, erased 255", counted(255, 255, 0));
-    print_fit(b"used 2, erased 1, list 3", counted(2, 1, 3));
-    print_fit(b"used 2, erased 1, list 4", counted(2, 1, 4));
-    print_fit(b"used 126, list 126", counted(126, 0, 126));
-    let three = with_first_map_byte(counted(3, 0, 0), 0xEA);
-    print_fit(b"used 3, Written 3", three);
-    let two = with_first_map_byte(counted(2, 1, 0), 0xEA);
-    print_fit(b"used 2, erased 1, Written 3", two);
-}
-
-fn print_places() {
-    let one = counted(1, 0, 1);
-    print_fit(b"index 125", with_place(one, 0, 0, 125));
-    print_fit(b"index 126", with_place(one, 0, 0, 126));
-    print_fit(b"hash 2^24 - 1", with_place(one, 0, 0xFFFFFF, 0));
-    print_fit(b"hash 2^24", with_place(one, 0, 0x1000000, 0));
-    print_fit(b"a hash behind the list", with_place(one, 1, 1, 0));
-    print_fit(b"an index in the last place", with_place(one, 125, 0, 1));
-}
-
-fn print_blank() {
-    print_fit(b"Uninitialized", blank());
-    let mut sequence = blank();
-    sequence.sequence = 1;
-    print_fit(b"Uninitialized, sequence 1", sequence);
-    let mut version = blank();
-    version.version = 0xFE;
-    print_fit(b"Uninitialized, version 0xfe", version);
-    let mut crc = blank();
-    crc.crc = 1;
-    print_fit(b"Uninitialized, header CRC 1", crc);
-    let mut used = blank();
-    used.used = 1;
-    print_fit(b"Uninitialized, used 1", used);
-    let mut erased = blank();
-    erased.erased = 1;
-    print_fit(b"Uninitialized, erased 1", erased);
-    print_fit(
-        b"Uninitialized, entry 0 Erased",
-        with_first_map_byte(blank(), 0xFC),
+fn print_counted(map: u8, used: u8, erased: u8, len: u8) {
+    let state = PageState::Active;
+    let fit = is_fit(state, 1, 0xFE, 1, map, used, erased, len, 0, 0, 0);
+    show::line(
+        b"record, first map byte $, used #, erased #, list #: ?fit\n",
+        [
+            map as u64,
+            used as u64,
+            erased as u64,
+            len as u64,
+            fit as u64,
+            0,
+            0,
+        ],
     );
 }
 
-pub(crate) fn print_all() {
-    print_counts();
-    print_places();
-    print_blank();
+fn print_place(at: usize, hash: u32, index: u8)
+    requires { ⌜ at < 126 ⌝ }
+{
+    let state = PageState::Active;
+    let fit = is_fit(state, 1, 0xFE, 1, 0xFF, 1, 0, 1, at, hash, index);
+    show::line(
+        b"record, list 1, place # of hash # and index #: ?fit\n",
+        [at as u64, hash as u64, index as u64, fit as u64, 0, 0, 0],
+    );
+}
+
+fn print_blank(map: u8, sequence: u32, version: u8, crc: u32, used: u8, erased: u8) {
+    let state = PageState::Uninitialized;
+    let fit = is_fit(state, sequence, version, crc, map, used, erased, 0, 0, 0, 0);
+    show::line(
+        b"record, Uninitialized, first map byte $, sequence #, version $, header CRC #, used #, erased #: ?fit\n",
+        [
+            map as u64,
+            sequence as u64,
+            version as u64,
+            crc as u64,
+            used as u64,
+            erased as u64,
+            fit as u64,
+        ],
+    );
+}
+
+pub(crate) fn print_active() {
+    print_counted(0xFF, 100, 26, 0);
+    print_counted(0xFF, 100, 27, 0);
+    print_counted(0xFF, 255, 255, 0);
+    print_counted(0xFF, 2, 1, 3);
+    print_counted(0xFF, 2, 1, 4);
+    print_counted(0xFF, 126, 0, 126);
+    print_counted(0xEA, 3, 0, 0);
+    print_counted(0xEA, 2, 1, 0);
+    print_place(0, 0, 125);
+    print_place(0, 0, 126);
+    print_place(0, 0xFFFFFF, 0);
+    print_place(0, 0x1000000, 0);
+    print_place(1, 1, 0);
+    print_place(125, 0, 1);
+}
+
+pub(crate) fn print_blanks() {
+    print_blank(0xFF, 0, 0, 0, 0, 0);
+    print_blank(0xFF, 1, 0, 0, 0, 0);
+    print_blank(0xFF, 0, 0xFE, 0, 0, 0);
+    print_blank(0xFF, 0, 0, 1, 0, 0);
+    print_blank(0xFF, 0, 0, 0, 1, 0);
+    print_blank(0xFF, 0, 0, 0, 0, 1);
+    print_blank(0xFC, 0, 0, 0, 0, 0);
 }

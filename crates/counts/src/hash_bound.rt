@@ -1,12 +1,5 @@
 // The hash bound, over pages of a few items.
 
-fn print_bound(name: &[u8], map: [u8; 32], entries: [[u8; 32]; 126]) {
-    show::text(b"hash bound, ");
-    show::text(name);
-    show::number(b": ", bound::hashed_item_bound(map, entries) as u64);
-    show::text(b"\n");
-}
-
 fn entry(namespace: u8, span: u8) -> [u8; 32] {
     let mut bytes = [0x77u8; 32];
     bytes[0] = namespace;
@@ -15,43 +8,53 @@ fn entry(namespace: u8, span: u8) -> [u8; 32] {
 }
 
 // A namespace, an item of span 1, one of span 3, an Erased one, then span 0, a span off the page, span 1.
-fn print_small() {
+fn bound_of_nine() -> usize {
     let mut map = [0xFFu8; 32];
     map[0] = 0xAA;
     map[1] = 0xA2;
     map[2] = 0xFE;
-    let mut entries = [[0x77u8; 32]; 126];
+    let mut entries = [entry(2, 1); 126];
     entries[0] = entry(0, 1);
     entries[1] = entry(1, 1);
     entries[2] = entry(1, 3);
-    entries[5] = entry(1, 1);
     entries[6] = entry(2, 0);
     entries[7] = entry(2, 255);
-    entries[8] = entry(2, 1);
-    print_bound(b"nine entries", map, entries);
+    bound::hashed_item_bound(map, entries)
 }
 
-// Entries 124 and 125 Written, the first of this span.
-fn print_last(name: &[u8], span: u8) {
-    let mut map = [0xFFu8; 32];
-    map[31] = 0xFA;
-    let mut entries = [[0x77u8; 32]; 126];
-    entries[124] = entry(1, span);
-    entries[125] = entry(1, 1);
-    print_bound(name, map, entries);
+// A map of one byte but for the last, and entries of one span but for the last.
+fn bound_of(byte: u8, end: u8, namespace: u8, span: u8, last: u8) -> usize {
+    let mut map = [byte; 32];
+    map[31] = end;
+    let mut entries = [entry(namespace, span); 126];
+    entries[125] = entry(namespace, last);
+    bound::hashed_item_bound(map, entries)
+}
+
+fn print_bound(byte: u8, end: u8, namespace: u8, span: u8, last: u8) {
+    let bound = bound_of(byte, end, namespace, span, last);
+    show::line(
+        b"hash bound, map $, last byte $, namespace #, span #, at 125 span #: #\n",
+        [
+            byte as u64,
+            end as u64,
+            namespace as u64,
+            span as u64,
+            last as u64,
+            bound as u64,
+            0,
+        ],
+    );
 }
 
 pub(crate) fn print_all() {
-    let one = entry(1, 1);
-    print_bound(b"no entry Written", [0xFF; 32], [one; 126]);
-    print_bound(b"all Written, span 1", [0xAA; 32], [one; 126]);
-    let none = entry(0, 1);
-    print_bound(b"all Written, namespace 0", [0xAA; 32], [none; 126]);
-    let whole = entry(1, 126);
-    print_bound(b"all Written, span 126", [0xAA; 32], [whole; 126]);
-    let over = entry(1, 127);
-    print_bound(b"all Written, span 127", [0xAA; 32], [over; 126]);
-    print_small();
-    print_last(b"span 2 at 124", 2);
-    print_last(b"span 3 at 124", 3);
+    print_bound(0xFF, 0xFF, 1, 1, 1);
+    print_bound(0xAA, 0xAA, 1, 1, 1);
+    print_bound(0xAA, 0xAA, 0, 1, 1);
+    print_bound(0xAA, 0xAA, 1, 126, 126);
+    print_bound(0xAA, 0xAA, 1, 127, 127);
+    show::number(b"hash bound, nine entries: ", bound_of_nine() as u64);
+    show::text(b"\n");
+    print_bound(0xFF, 0xFA, 1, 2, 1);
+    print_bound(0xFF, 0xFA, 1, 3, 1);
 }

@@ -20,14 +20,11 @@ fn one_if_bits(index: usize, byte: u8, bits: u8) -> u64
     bytes[index / 4] = byte;
     let given = map::get_entry_state(bytes, index);
     let answer = given.answer;
-    if sector::answers::number_of(answer) != 0 {
-        return 0;
-    }
     let state = given.state;
-    if bits_of(state) != bits {
-        return 0;
+    if sector::answers::number_of(answer) == 0 && bits_of(state) == bits {
+        return 1;
     }
-    1
+    0
 }
 
 // At how many values of its byte an entry has these bits.
@@ -41,61 +38,64 @@ fn count_bits(index: usize, bits: u8) -> u64
     count
 }
 
-fn print_counts(name: &[u8], index: usize)
+fn print_counts(index: usize)
     requires { ⌜ index < 126 ⌝ }
 {
-    show::text(b"states over all bytes, ");
-    show::text(name);
-    show::number(b": empty ", count_bits(index, 0b11));
-    show::number(b", written ", count_bits(index, 0b10));
-    show::number(b", erased ", count_bits(index, 0b00));
-    show::number(b", illegal ", count_bits(index, 0b01));
-    show::text(b"\n");
+    let empty = count_bits(index, 0b11);
+    let written = count_bits(index, 0b10);
+    let erased = count_bits(index, 0b00);
+    let illegal = count_bits(index, 0b01);
+    show::line(
+        b"states over all bytes, entry #: empty #, written #, erased #, illegal #\n",
+        [index as u64, empty, written, erased, illegal, 0, 0],
+    );
 }
 
-fn print_state(name: &[u8], byte: u8, index: usize) {
-    let given = map::get_entry_state([byte; 32], index);
-    show::text(b"state, ");
-    show::text(name);
+fn print_state(byte: u8, at: usize) {
+    let given = map::get_entry_state([byte; 32], at);
     let answer = given.answer;
-    show::answered(b": answer ", answer);
+    let number = sector::answers::number_of(answer);
     let state = given.state;
-    show::number(b", bits ", show::wide(bits_of(state)));
-    show::text(b"\n");
+    let bits = bits_of(state);
+    show::line(
+        b"state, map of $, entry #: answer #, bits #\n",
+        [byte as u64, at as u64, number as u64, bits as u64, 0, 0, 0],
+    );
 }
 
-fn print_statistics(name: &[u8], map: [u8; 32]) {
-    let given = map::get_entry_statistics(map);
-    show::text(b"statistics, ");
-    show::text(name);
-    show::number(b": empty ", given.empty as u64);
-    show::number(b", written ", given.written as u64);
-    show::number(b", erased ", given.erased as u64);
-    show::number(b", illegal ", given.illegal as u64);
-    show::text(b"\n");
-}
-
-fn print_states() {
-    print_counts(b"entry 0", 0);
-    print_counts(b"entry 1", 1);
-    print_counts(b"entry 2", 2);
-    print_counts(b"entry 3", 3);
-    print_counts(b"entry 125", 125);
-    print_state(b"map of 0x0f, entry 125", 0x0F, 125);
-    print_state(b"map of 0x0f, entry 126", 0x0F, 126);
-    print_state(b"map of 0x0f, entry 127", 0x0F, 127);
-    print_state(b"map of 0xff, entry 126", 0xFF, 126);
-    print_state(b"map of 0xff, entry 128", 0xFF, 128);
+fn print_statistics(byte: u8, last: u8) {
+    let mut bytes = [byte; 32];
+    bytes[31] = last;
+    let given = map::get_entry_statistics(bytes);
+    show::line(
+        b"statistics, map $, last byte $: empty #, written #, erased #, illegal #\n",
+        [
+            byte as u64,
+            last as u64,
+            given.empty as u64,
+            given.written as u64,
+            given.erased as u64,
+            given.illegal as u64,
+            0,
+        ],
+    );
 }
 
 pub(crate) fn print_all() {
-    print_states();
-    print_statistics(b"all 0xff", [0xFF; 32]);
-    print_statistics(b"all 0xaa", [0xAA; 32]);
-    print_statistics(b"all 0x00", [0x00; 32]);
-    print_statistics(b"all 0x55", [0x55; 32]);
-    print_statistics(b"all 0xe4", [0xE4; 32]);
-    let mut spare = [0xFFu8; 32];
-    spare[31] = 0x0F;
-    print_statistics(b"all 0xff but for the last byte's top four bits", spare);
+    print_counts(0);
+    print_counts(1);
+    print_counts(2);
+    print_counts(3);
+    print_counts(125);
+    print_state(0x0F, 125);
+    print_state(0x0F, 126);
+    print_state(0x0F, 127);
+    print_state(0xFF, 126);
+    print_state(0xFF, 128);
+    print_statistics(0xFF, 0xFF);
+    print_statistics(0xAA, 0xAA);
+    print_statistics(0x00, 0x00);
+    print_statistics(0x55, 0x55);
+    print_statistics(0xE4, 0xE4);
+    print_statistics(0xFF, 0x0F);
 }

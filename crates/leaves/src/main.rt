@@ -1,4 +1,4 @@
-// What the calls that read bytes give at both sides of each edge, in document 01's order: a line an edge, with its name.
+// What the calls that read bytes give at both sides of each edge, by numbers: a line for an item, and one for what its reading gives.
 //
 // Answers are 01's numbers; the type byte that a mismatch carries stands behind its 8.
 mod images;
@@ -8,6 +8,8 @@ mod type_bytes;
 
 fn main() {
     type_bytes::print_all();
-    loading::print_all();
-    payloads::print_all();
+    payloads::print_types();
+    payloads::print_sizes();
+    payloads::print_places();
+    payloads::print_blank();
 }

@@ -1,6 +1,7 @@
-// Load data: the answer, the size, and how many of the output's 100 bytes became the sector's.
+// What a page gives to load, raw read and load data: of the last, the size and how many of the output's 100 bytes became the sector's.
 ghost use Prim.Native.Nat.{_<_, _≤_};
 use crate::images;
+use crate::loading;
 
 fn count_filled(output: &[u8; 100]) -> u64 {
     let mut count: u64 = 0;
@@ -12,75 +13,87 @@ fn count_filled(output: &[u8; 100]) -> u64 {
     count
 }
 
-fn print_given(answer: sector::Answer, size: usize, output: &[u8; 100]) {
-    show::answered(b": answer ", answer);
-    show::number(b", size ", size as u64);
-    show::number(b", bytes ", count_filled(output));
-    show::text(b"\n");
+fn print_given(answer: sector::Answer, room: usize, size: usize, filled: u64) {
+    show::line(
+        b"; load data into #: size #, bytes #",
+        [room as u64, size as u64, filled, 0, 0, 0, 0],
+    );
+    images::print_answer(answer);
 }
 
 // For the first `room` bytes of the output: the others must stay.
-fn print_data(name: &[u8], image: &[u8], index: usize, room: usize)
+fn print_data(image: &[u8], index: usize, room: usize)
     requires { ⌜ room ≤ 100 ⌝ }
 {
-    show::text(b"load data, ");
-    show::text(name);
+    loading::print_loads(image, index);
     let mut output = [0xA5u8; 100];
-    let loaded = payload::load_referenced_data_into(image, index, &mut output[..room]);
+    let loaded = payload::load_referenced_data_into(image, index, &mut output[0..room]);
     let answer = loaded.answer;
-    print_given(answer, loaded.size, &output);
+    print_given(answer, room, loaded.size, count_filled(&output));
 }
 
-// A page whose only item is this header.
-fn print_item(name: &[u8], index: usize, entry: [u8; 32], room: usize)
-    requires { ⌜ (index < 126) × (room ≤ 100) ⌝ }
+fn print_page(image: &[u8; 4096], index: usize, room: usize)
+    requires { ⌜ room ≤ 100 ⌝ }
 {
-    let image = images::image_with(index, entry);
-    print_data(name, &image, index, room);
+    print_data(image, index, room);
 }
 
-fn print_types() {
-    print_item(b"type U8", 0, images::header(0x01, 1, 0), 100);
-    print_item(b"type BlobIndex", 0, images::header(0x48, 1, 0), 100);
-    print_item(b"type Any", 0, images::header(0xFF, 1, 0), 100);
-    let other = images::with_type(images::header(0xFF, 1, 0), 0x05);
-    print_item(b"type 0x05", 0, other, 100);
-    print_item(b"type Sized", 0, images::header(0x21, 2, 4), 100);
-    print_item(b"type Blob", 0, images::header(0x41, 2, 4), 100);
-    print_item(b"type BlobData", 0, images::header(0x42, 2, 4), 100);
-}
-
-fn print_sizes() {
-    print_item(b"span 0", 0, images::header(0x21, 0, 0), 100);
-    print_item(
-        b"size 0 at span 1, no output",
-        0,
-        images::header(0x21, 1, 0),
-        0,
+fn print_item(at: usize, index: usize, over: u8, kind: u8, span: u8, size: u8, room: usize)
+    requires { ⌜ (at < 126) × (room ≤ 100) ⌝ }
+{
+    show::line(
+        b"item at #, CRC over type $, type $, span #, size #\n",
+        [
+            at as u64,
+            over as u64,
+            kind as u64,
+            span as u64,
+            size as u64,
+            0,
+            0,
+        ],
     );
-    print_item(b"size 1 at span 1", 0, images::header(0x21, 1, 1), 100);
-    print_item(b"size 64 at span 3", 0, images::header(0x21, 3, 64), 100);
-    print_item(b"size 65 at span 3", 0, images::header(0x21, 3, 65), 100);
-    print_item(b"size 33, output 36", 0, images::header(0x21, 3, 33), 36);
-    print_item(b"size 33, output 35", 0, images::header(0x21, 3, 33), 35);
-    print_item(b"size 33, output 100", 0, images::header(0x21, 3, 33), 100);
+    let image = images::page_with(at, over, kind, span, size);
+    print_page(&image, index, room);
 }
 
-fn print_places() {
-    print_item(b"span 3 at 123", 123, images::header(0x21, 3, 64), 100);
-    print_item(b"span 3 at 124", 124, images::header(0x21, 3, 64), 100);
-    print_item(b"span 1 at 125", 125, images::header(0x21, 1, 0), 100);
-    let wrong = images::with_type(images::header(0x21, 2, 4), 0x41);
-    print_item(b"CRC wrong", 0, wrong, 100);
-    let blank = images::erased();
-    print_data(b"entry all 0xff", &blank, 0, 100);
-    print_data(b"index 126", &blank, 126, 100);
-    let short = images::too_short();
-    print_data(b"4,095 bytes, index 126", &short, 126, 100);
+pub(crate) fn print_types() {
+    print_item(0, 0, 0x01, 0x01, 1, 0, 100);
+    print_item(0, 0, 0x01, 0x11, 1, 0, 100);
+    print_item(0, 0, 0x48, 0x48, 1, 0, 100);
+    print_item(0, 0, 0xFF, 0xFF, 1, 0, 100);
+    print_item(0, 0, 0xFF, 0x05, 1, 0, 100);
+    print_item(0, 0, 0x05, 0x05, 1, 0, 100);
+    print_item(0, 0, 0x21, 0x21, 2, 4, 100);
+    print_item(0, 0, 0x41, 0x41, 2, 4, 100);
+    print_item(0, 0, 0x42, 0x42, 2, 4, 100);
+    print_item(0, 0, 0x21, 0x41, 2, 4, 100);
 }
 
-pub(crate) fn print_all() {
-    print_types();
-    print_sizes();
-    print_places();
+pub(crate) fn print_sizes() {
+    print_item(0, 0, 0x21, 0x21, 0, 0, 100);
+    print_item(0, 0, 0x21, 0x21, 1, 0, 0);
+    print_item(0, 0, 0x21, 0x21, 1, 1, 100);
+    print_item(0, 0, 0x21, 0x21, 3, 64, 100);
+    print_item(0, 0, 0x21, 0x21, 3, 65, 100);
+    print_item(0, 0, 0x21, 0x21, 3, 33, 36);
+    print_item(0, 0, 0x21, 0x21, 3, 33, 35);
+    print_item(0, 0, 0x21, 0x21, 3, 33, 100);
+}
+
+pub(crate) fn print_places() {
+    print_item(123, 123, 0x21, 0x21, 3, 64, 100);
+    print_item(124, 124, 0x21, 0x21, 3, 64, 100);
+    print_item(125, 125, 0x21, 0x21, 1, 0, 100);
+    print_item(125, 125, 0x01, 0x01, 1, 0, 100);
+    print_item(125, 126, 0x01, 0x01, 1, 0, 100);
+}
+
+pub(crate) fn print_blank() {
+    show::text(b"all 0xff, 4,096 bytes, then 4,095\n");
+    let blank = [0xFFu8; 4096];
+    print_data(&blank, 0, 100);
+    print_data(&blank, 126, 100);
+    let short = [0xFFu8; 4095];
+    print_data(&short, 126, 100);
 }

@@ -1,15 +1,17 @@
 // Type bytes: what each of the 256 becomes, and a primitive's width.
 ghost use Prim.Native.Nat.{_≤_};
+use crate::images;
 use sector::Answer;
 
-fn print_type(name: &[u8], byte: u8) {
-    show::byte(name, byte);
-    show::byte(b": ", types::type_byte(byte));
+fn print_type(byte: u8) {
     let given = types::get_primitive_bytes_width(byte);
     let answer = given.answer;
-    show::answered(b", answer ", answer);
-    show::number(b", width ", show::wide(given.width));
-    show::text(b"\n");
+    let became = types::type_byte(byte);
+    show::line(
+        b"type byte $ becomes $, width #",
+        [byte as u64, became as u64, given.width as u64, 0, 0, 0, 0],
+    );
+    images::print_answer(answer);
 }
 
 // 1 for a byte that becomes 0xFF, and whose width is a mismatch that carries 0xFF.
@@ -39,22 +41,21 @@ fn count_other() -> u64 {
 }
 
 pub(crate) fn print_all() {
-    print_type(b"type U8 ", 0x01);
-    print_type(b"type I8 ", 0x11);
-    print_type(b"type U16 ", 0x02);
-    print_type(b"type I16 ", 0x12);
-    print_type(b"type U32 ", 0x04);
-    print_type(b"type I32 ", 0x14);
-    print_type(b"type U64 ", 0x08);
-    print_type(b"type I64 ", 0x18);
-    print_type(b"type Sized ", 0x21);
-    print_type(b"type Blob ", 0x41);
-    print_type(b"type BlobData ", 0x42);
-    print_type(b"type BlobIndex ", 0x48);
-    print_type(b"type Any ", 0xFF);
-    show::number(
-        b"type bytes that become 0xff, answer 8 0xff: ",
-        count_other(),
+    print_type(0x01);
+    print_type(0x11);
+    print_type(0x02);
+    print_type(0x12);
+    print_type(0x04);
+    print_type(0x14);
+    print_type(0x08);
+    print_type(0x18);
+    print_type(0x21);
+    print_type(0x41);
+    print_type(0x42);
+    print_type(0x48);
+    print_type(0xFF);
+    show::line(
+        b"other type bytes that become 0xff, width answer 8 0xff: #\n",
+        [count_other(), 0, 0, 0, 0, 0, 0],
     );
-    show::text(b"\n");
 }

@@ -1,6 +1,8 @@
 // Standard output: text, numbers, bytes and answers, for the programs.
 //
 // An answer is 01's number; the type byte that a mismatch carries stands behind its 8.
+ghost use Prim.Native.Nat.{_<_, _≤_};
+ghost use lib.ListN.{length};
 use libc::STDOUT_FILENO;
 use sector::Answer;
 
@@ -27,5 +29,39 @@ pub fn answered(name: &[u8], answer: Answer) {
     number(name, wide(sector::answers::number_of(answer)));
     if let Answer::ItemTypeMismatch(carried) = answer {
         byte(b" ", carried);
+    }
+}
+
+// A letter of a line: `#` stands for a number, `$` for one that is a byte, `?` for "not " where it is 0, and any other letter for
+// itself. Gives how many numbers it took.
+fn letter(words: &[u8], at: usize, value: u64) -> usize
+    requires { ⌜ at < length (now words) ⌝ }
+    ensures { λ r. ⌜ r ≤ 1 ⌝ }
+{
+    let mark = words[at];
+    if mark == b'#' {
+        io::print_decimal(STDOUT_FILENO, value);
+        return 1;
+    }
+    if mark == b'$' {
+        text(b"0x");
+        io::print_hex(STDOUT_FILENO, value, 2);
+        return 1;
+    }
+    if mark == b'?' {
+        if value == 0 {
+            text(b"not ");
+        }
+        return 1;
+    }
+    text(&words[at..at + 1]);
+    0
+}
+
+// A line with numbers in the places of its marks, in their order. What no mark takes is not shown.
+pub fn line(words: &[u8], values: [u64; 7]) {
+    let mut next: usize = 0;
+    for k in 0..words.len() {
+        next += letter(words, k, values[next % 7]);
     }
 }
