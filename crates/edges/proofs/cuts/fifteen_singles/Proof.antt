@@ -1,8 +1,8 @@
 -- `cuts::fifteen_singles` is safe and ends: the count rises, and stays below 15.
 use Prim.Native.Nat.{_-_}
 use borrow.Author.Needs.{needs}
-use Rattle.trials.proofs.cuts.fifteen_singles.Statement.{statement}
-use Rattle.trials.proofs.cuts.fifteen_singles.Tie as tie
+use Rattle.edges.proofs.cuts.fifteen_singles.Statement.{statement}
+use Rattle.edges.proofs.cuts.fifteen_singles.Tie as tie
 
 abbrev Inv-loop : tie.InvT-loop
 Inv-loop sector₀ chunk₀ sector chunk = Unit

@@ -6,7 +6,7 @@ use crate::records;
 use crate::units;
 
 // An image that ends in this byte.
-pub fn initialise(state: u8, last: u8) {
+fn initialise(state: u8, last: u8) {
     show::byte(b"initialise, last byte ", last);
     lines::print_page(state, 0, 0);
     let mut sector = records::empty(state);
@@ -14,8 +14,16 @@ pub fn initialise(state: u8, last: u8) {
     units::print_on(sector, Call::Initialise, 0);
 }
 
-pub fn mark_full(state: u8) {
+fn mark_full(state: u8) {
     show::text(b"mark full");
     lines::print_page(state, 0, 0);
     lines::print(calls::after(records::empty(state), Call::MarkFull, 0), 0);
+}
+
+pub(crate) fn print_all() {
+    initialise(0xFF, 0xFF);
+    initialise(0xFF, 0xFE);
+    initialise(0xFE, 0xFF);
+    mark_full(0xFE);
+    mark_full(0xFC);
 }

@@ -12,7 +12,7 @@ fn open(sector: Sector, at: usize) -> Sector {
     opened
 }
 
-pub fn initialise(n: usize) {
+fn initialise(n: usize) {
     show::number(b"initialise, cut at ", n as u64);
     let cut = calls::after(records::empty(0xFF), Call::Initialise, n);
     lines::print(cut, 0);
@@ -32,7 +32,7 @@ fn fifteen_singles() -> Sector {
     sector
 }
 
-pub fn data(n: usize) {
+fn data(n: usize) {
     show::number(b"32 bytes at next free 15, cut at ", n as u64);
     let call = Call::Variable {
         namespace: 1,
@@ -43,4 +43,18 @@ pub fn data(n: usize) {
     let cut = calls::after(fifteen_singles(), call, n);
     lines::print(cut, 3);
     open(open(cut, 3), 4);
+}
+
+pub(crate) fn print_all() {
+    initialise(0);
+    initialise(1);
+    initialise(7);
+    initialise(8);
+    data(0);
+    data(1);
+    data(8);
+    data(9);
+    data(16);
+    data(17);
+    data(18);
 }

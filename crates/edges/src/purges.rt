@@ -14,7 +14,7 @@ fn count_zeros(image: &[u8; 4096]) -> u64 {
     count
 }
 
-pub fn purge(index: usize, span: usize) {
+fn purge(index: usize, span: usize) {
     let mut image = [0xFFu8; 4096];
     let answer = purge::purge_entries(&mut image, index, span);
     show::number(b"purge, index ", index as u64);
@@ -61,7 +61,7 @@ fn print_purged(sector: Sector, namespace: u8) {
 }
 
 // After an erase of this many entries from 0 on, and from 1 on: 0 is none.
-pub fn purge_namespace(first: usize, second: usize, namespace: u8) {
+fn purge_namespace(first: usize, second: usize, namespace: u8) {
     show::number(b"purge by namespace, erased at 0 ", first as u64);
     show::number(b", at 1 ", second as u64);
     let one = Call::Erase {
@@ -74,4 +74,16 @@ pub fn purge_namespace(first: usize, second: usize, namespace: u8) {
     };
     let erased = calls::after(calls::after(three_items(), one, 0), two, 0);
     print_purged(erased, namespace);
+}
+
+pub(crate) fn print_all() {
+    purge(125, 9);
+    purge(126, 9);
+    purge(0, 0);
+    purge(0, 2);
+    purge(0, 127);
+    purge_namespace(0, 0, 1);
+    purge_namespace(1, 3, 1);
+    purge_namespace(1, 3, 2);
+    purge_namespace(1, 3, 3);
 }

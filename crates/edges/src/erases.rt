@@ -13,7 +13,7 @@ fn print_name(state: u8, length: usize, before: usize, index: usize, span: usize
 }
 
 // On a page with data of this length, where its state lets one append, of which entries were erased before: 0 is none.
-pub fn erase(state: u8, length: usize, before: usize, index: usize, span: usize) {
+fn erase(state: u8, length: usize, before: usize, index: usize, span: usize) {
     print_name(state, length, before, index, span);
     let data = Call::Variable {
         namespace: 1,
@@ -28,4 +28,18 @@ pub fn erase(state: u8, length: usize, before: usize, index: usize, span: usize)
     };
     let sector = calls::after(written, first, 0);
     lines::print(calls::after(sector, Call::Erase { index, span }, 0), 0);
+}
+
+// State of the page, length of its data and entries erased before; index and span.
+pub(crate) fn print_all() {
+    erase(0xFE, 33, 0, 0, 3);
+    erase(0xFE, 33, 0, 0, 4);
+    erase(0xFE, 33, 0, 3, 1);
+    erase(0xFE, 33, 0, 0, 0);
+    erase(0xFE, 33, 0, 125, 1);
+    erase(0xFE, 33, 0, 125, 2);
+    erase(0xFE, 33, 0, 126, 1);
+    erase(0xFE, 33, 3, 0, 3);
+    erase(0xFE, 4000, 0, 0, 126);
+    erase(0xFF, 0, 0, 0, 0);
 }
