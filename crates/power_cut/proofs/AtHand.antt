@@ -28,6 +28,7 @@ use Rattle.sector.proofs.Marks.{countIn-append}
 use Rattle.reading.specs.Reading.{Item, item}
 use Rattle.opening.specs.Opening.{keptItems, openedMap, openedPage, headerOf, listedItems}
 use Rattle.reading.proofs.Verdicts.{States, Entries}
+use Rattle.reopening.proofs.OpenedFront.{count-empties}
 use Rattle.power_cut.proofs.Standing.{Standing, standing-map, standing-kept, standing-openedMap}
 
 -- ---- fields of the header
@@ -54,11 +55,6 @@ pageOf header map front items =
       len = length (listedItems items);
       list = padded (listedItems items);
     }
-
-pub count-empties : (s : EntryMapState) (n : ℕ) → sameState s Empty ≡ false → countIn s (replicate n Empty) ≡ 0
-unfolding countIn
-count-empties s zero e = refl
-count-empties s (suc n) e = rw (e, count-empties s n e)
 
 -- what opening reads of an image, from its header, the map that it leaves, and the items that it keeps
 module _ (image header rest map : List ℕ) (front : States) (spare : ℕ) (items : List Item) (split : image ≡ header ++ rest) (size : length header ≡ 32)

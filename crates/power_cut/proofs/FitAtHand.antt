@@ -28,10 +28,11 @@ use Rattle.reading.specs.Reading.{verdictAt, stepsOver, Item, item, withKept, k
 use Rattle.reading.proofs.Verdicts.{States, Entries}
 use Rattle.opening.specs.Opening.{headerOf, listedItems}
 use Rattle.promises.proofs.FitRecords.{known-fits, zero-places, hash-short}
+use Rattle.reopening.proofs.OpenedFront.{count-empties}
 use Rattle.reopening.proofs.KeptItem.{Indices, indices-nil, indices-cons, indices-keptFrom}
 use Rattle.power_cut.specs.PowerCut.{RecordIsFit}
 use Rattle.power_cut.proofs.Standing.{Standing}
-use Rattle.power_cut.proofs.AtHand.{pageOf, count-empties}
+use Rattle.power_cut.proofs.AtHand.{pageOf}
 use Rattle.power_cut.proofs.Headers.{open-initialized, header-opens}
 use Rattle.power_cut.proofs.Started.{counted}
 use Rattle.power_cut.proofs.Held.{Held, Known, held, blank}

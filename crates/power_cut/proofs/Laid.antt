@@ -32,6 +32,7 @@ use Rattle.power_cut.specs.History.{allBytes, SingleRequest, VariableReq
 use Rattle.power_cut.proofs.Standing.{Standing, front-bytes, front-size, regroup, blank-parts}
 use Rattle.reading.proofs.Entries.{take-chunks, drop-chunks}
 use Rattle.power_cut.proofs.Chunks.{chunks-take}
+use Rattle.power_cut.proofs.Found.{find}
 use Rattle.power_cut.proofs.NewItem.{single-whole, variable-whole}
 use Rattle.power_cut.proofs.Begun.{Lays}
 use Rattle.reopening.proofs.KeptItem.{WholeAt, kept-whole}
@@ -200,13 +201,8 @@ module _ {image : List ℕ} {items : List Item} (p : Standing image items) where
   -- ---- a copy of an item that the source's reading keeps
 
   module _ (source : List ℕ) (index : ℕ) (entries : Entries) (kept : KeptIn source index entries) where
-    source-map : length (mapOf source) ≡ 32
-    source-map = length-take-le 32 (drop 32 source) (rw length-drop (omega (arith, kept .sector .size)))
-
     pub place : WholeAt index entries (entriesOf source)
-    unfolding keptItems
-    place =
-        kept-whole (statesOf (mapOf source)) (entriesOf source) (length-statesOf (mapOf source) source-map ∙ sym (length-entriesOf source)) (kept .kept)
+    place = find source (kept .sector .size) (kept .kept)
 
     abbrev bytes-there : List ℕ
     bytes-there = drop (entryAddress index) source

@@ -1,4 +1,5 @@
 pub mod Chunks
+pub mod Found
 pub mod NewItem
 pub mod Standing
 pub mod MapUnits

@@ -29,9 +29,10 @@ use Rattle.reading.specs.Reading.{firstRule, isPayload, covered, joined, sizeTo
 use Rattle.reading.proofs.Entries.{take-joined, entries-from}
 use Rattle.reading.proofs.Verdicts.{Entries, Whole, header-loads, whole-span}
 use Rattle.opening.specs.Opening.{headerOf, keptItems}
-use Rattle.reopening.proofs.KeptItem.{WholeAt, kept-whole}
+use Rattle.reopening.proofs.KeptItem.{WholeAt}
 use Rattle.power_cut.specs.History.{VariableRequest, History, payloadEntries}
 use Rattle.power_cut.specs.PowerCut.{LoadsWhatWasPut, LoadsData}
+use Rattle.power_cut.proofs.Found.{map-size, find}
 use Rattle.power_cut.proofs.NewItem.{behind, new-size, payload-there, header-typed}
 use Rattle.power_cut.proofs.Standing.{standing-size}
 use Rattle.power_cut.proofs.Held.{Known, held, blank}
@@ -56,15 +57,6 @@ first-is e = cc
 
 rest-is : {A : Type 0} {x y : A} {xs ys : List A} → x ∷ xs ≡ y ∷ ys → xs ≡ ys
 rest-is e = cc
-
-map-size : (image : List ℕ) → length image ≡ 4096 → length (mapOf image) ≡ 32
-map-size image size = length-take-le 32 (drop 32 image) (rw length-drop (omega arith))
-
-find : {index : ℕ} {group : Entries} (image : List ℕ) → length image ≡ 4096 → List·Memᴰ (item index group) (keptItems image)
-    → WholeAt index group (entriesOf image)
-unfolding keptItems
-find image size kept =
-    kept-whole (statesOf (mapOf image)) (entriesOf image) (length-statesOf (mapOf image) (map-size image size) ∙ sym (length-entriesOf image)) kept
 
 module _ {index : ℕ} {group : Entries} (image : List ℕ) (size : length image ≡ 4096) (found : WholeAt index group (entriesOf image)) where
   abbrev k : ℕ

@@ -28,6 +28,7 @@ use Rattle.reopening.proofs.TwoPasses.{clears-firstStates, clears-secondPass}
 use Rattle.reopening.proofs.OpenedFront.{Opened, opened}
 use Rattle.reopening.proofs.Cuts.{kept-unmarked}
 use Rattle.power_cut.proofs.Chunks.{chunks-append, suc-entries}
+use Rattle.power_cut.proofs.Found.{map-size}
 use Rattle.power_cut.proofs.MapUnits.{splice-all, run-changed}
 use Rattle.power_cut.proofs.Standing.{Standing}
 
@@ -56,14 +57,11 @@ module _ (image : List ℕ) (size : length image ≡ 4096) (bytes : Bytes image)
   abbrev pub entries : Entries
   entries = entriesOf image
 
-  map-size : length (mapOf image) ≡ 32
-  map-size = length-take-le 32 (drop 32 image) (rw length-drop (omega arith))
-
   header-size : length (take 32 image) ≡ 32
   header-size = length-take-le 32 image (omega arith)
 
   states-size : length states ≡ 126
-  states-size = length-statesOf (mapOf image) map-size
+  states-size = length-statesOf (mapOf image) (map-size image size)
 
   pub same-size : length states ≡ length entries
   same-size = states-size ∙ sym (length-chunks 126 (drop 64 image))
@@ -96,11 +94,11 @@ module _ (image : List ℕ) (size : length image ≡ 4096) (bytes : Bytes image)
       let first = changedUnits 0 8 (mapOf image) (firstMap image) in
       let second = changedUnits 0 8 (firstMap image) (openedMap image) in
       let before : Bytes (header ++ (mapOf image ++ rest)) = subst Bytes (image-parts image) bytes in
-      let first-size : length (firstMap image) ≡ 32 = length-clears map-first ∙ map-size in
+      let first-size : length (firstMap image) ≡ 32 = length-clears map-first ∙ map-size image size in
       let second-size : length (openedMap image) ≡ 32 = length-clears map-second ∙ first-size in
       let one : run first image ≡ header ++ (firstMap image ++ rest) =
       ap (run first) (image-parts image)
-      ∙ run-changed header (mapOf image) (firstMap image) rest header-size map-size map-first before 0 8 (omega arith)
+      ∙ run-changed header (mapOf image) (firstMap image) rest header-size (map-size image size) map-first before 0 8 (omega arith)
       ∙ ap (λ (map : List ℕ). header ++ (map ++ rest)) (splice-all 32 map-first (omega arith)) in
       let between : Bytes (header ++ (firstMap image ++ rest)) = subst Bytes one (bytes-run first bytes) in
       run-append first second image
@@ -179,10 +177,10 @@ module _ (image : List ℕ) (size : length image ≡ 4096) (bytes : Bytes image)
   all-size : length all-states ≡ 128
   unfolding all-states
   all-size =
-      rw (length-append, length-openedStates states entries, states-size, length-drop, length-unpack (mapOf image), map-size)
+      rw (length-append, length-openedStates states entries, states-size, length-drop, length-unpack (mapOf image), map-size image size)
 
   pub opened-size : length (openedMap image) ≡ 32
-  opened-size = length-clears map-second ∙ length-clears map-first ∙ map-size
+  opened-size = length-clears map-second ∙ length-clears map-first ∙ map-size image size
 
   pub opened-states : statesOf (openedMap image) ≡ openedStates states entries
   unfolding openedMap

@@ -32,6 +32,7 @@ use Rattle.reading.proofs.Verdicts.{States, Entries}
 use Rattle.reopening.proofs.TwoPasses.{the-old, the-new, Mix, mix-nil, mix-cons, mix-take, firstStates, clears-firstStates, CutOpening, in-first, in-second, openedStates-cut, keptFrom-cut}
 use Rattle.power_cut.specs.History.{Sector}
 use Rattle.power_cut.specs.PowerCut.{OpeningCut}
+use Rattle.power_cut.proofs.Found.{map-size}
 use Rattle.power_cut.proofs.MapUnits.{splice, splice-all, Reached, reached, run-changed}
 use Rattle.power_cut.proofs.OpenedPage.{states, entries, same-size, map-first, map-second, run-opening}
 use Rattle.power_cut.proofs.Laid.{bytes-of}
@@ -149,11 +150,8 @@ module _ (image : List ℕ) (size : length image ≡ 4096) (bytes : Bytes image)
   abbrev es : Entries
   es = entries image size bytes
 
-  map-long : length (mapOf image) ≡ 32
-  map-long = length-take-le 32 (drop 32 image) (rw length-drop (omega arith))
-
   old-long : length old ≡ 126
-  old-long = length-statesOf (mapOf image) map-long
+  old-long = length-statesOf (mapOf image) (map-size image size)
 
   first-long : length (firstStates old es) ≡ 126
   first-long = length-states-clear (clears-firstStates old es (same-size image size bytes)) ∙ old-long
@@ -162,7 +160,7 @@ module _ (image : List ℕ) (size : length image ≡ 4096) (bytes : Bytes image)
   new-long = length-openedStates old es ∙ old-long
 
   behind-long : length behind ≡ 2
-  behind-long = rw (length-drop, length-unpack (mapOf image), map-long)
+  behind-long = rw (length-drop, length-unpack (mapOf image), map-size image size)
 
   unpack-old : unpack (mapOf image) ≡ old ++ behind
   unpack-old = sym (take-append-drop 126 (unpack (mapOf image)))
@@ -205,7 +203,7 @@ module _ (image : List ℕ) (size : length image ≡ 4096) (bytes : Bytes image)
   head-long = length-take-le 32 image (omega arith)
 
   first-size : length (firstMap image) ≡ 32
-  first-size = length-clears (map-first image size bytes) ∙ map-long image size bytes
+  first-size = length-clears (map-first image size bytes) ∙ map-size image size
 
   new-size : length (openedMap image) ≡ 32
   new-size = length-clears (map-second image size bytes) ∙ first-size
@@ -230,7 +228,7 @@ module _ (image : List ℕ) (size : length image ≡ 4096) (bytes : Bytes image)
   after-first : run first image ≡ head ++ (firstMap image ++ tail)
   after-first =
       ap (run first) (image-parts image)
-      ∙ run-changed head (mapOf image) (firstMap image) tail head-long (map-long image size bytes) (map-first image size bytes) before 0 8 (omega arith)
+      ∙ run-changed head (mapOf image) (firstMap image) tail head-long (map-size image size) (map-first image size bytes) before 0 8 (omega arith)
       ∙ ap (λ (map : List ℕ). head ++ (map ++ tail)) (splice-all 32 (map-first image size bytes) (omega (arith, first-size)))
 
   between : Bytes (head ++ (firstMap image ++ tail))
@@ -239,11 +237,11 @@ module _ (image : List ℕ) (size : length image ≡ 4096) (bytes : Bytes image)
   -- in the first pass
   cut-first : (n : ℕ) → Same (run (take n first) image) image
   cut-first n =
-      let r = reached head (mapOf image) (firstMap image) tail head-long (map-long image size bytes) (map-first image size bytes) before 0 8 n (omega arith) in
+      let r = reached head (mapOf image) (firstMap image) tail head-long (map-size image size) (map-first image size bytes) before 0 8 n (omega arith) in
       let mid = splice (4 * r .unit-at) (firstMap image) (mapOf image) in
       let parts = spliced image size bytes (r .unit-at) (mapOf image) (firstMap image) (old image size bytes) (firstStates (old image size bytes) (es image size bytes)) (unpack-old image size bytes) (unpack-first image size bytes) (old-long image size bytes) (first-long image size bytes) in
       middle (run (take n first) image) mid (ap (run (take n first)) (image-parts image) ∙ r .image)
-      (length-splice (4 * r .unit-at) (mapOf image) (firstMap image) (map-long image size bytes) first-size) (bytes-run (take n first) bytes)
+      (length-splice (4 * r .unit-at) (mapOf image) (firstMap image) (map-size image size) first-size) (bytes-run (take n first) bytes)
       (in-first (parts .0)) (parts .1)
 
   -- in the second
