@@ -1,19 +1,18 @@
 -- A call that begins: no check refuses, so its units are programmed, and when it is done it hands back its new record.
 -- Assumes nothing.
 use mathlib.Core.Path.{_≡_, refl, sym, ap, _∙_}
-use mathlib.Core.Bool.{Bool, true, false, _&&_, not, cond, and-eq-true-iff}
+use mathlib.Core.Bool.{Bool, true, false, _&&_, not, and-eq-true-iff}
 use mathlib.Core.List.{List, [], _∷_}
 use mathlib.Core.Logic.{_⊎_, inl, inr}
-use Prim.Native.Nat.{ℕ, _≤_}
+use Prim.Native.Nat.{ℕ}
 use native.Mathlib.Omega.{arith}
-use lib.Dec.{eqb, ltb}
+use lib.Dec.{eqb}
 use lib.ListN.{length, take}
 use lib.Seq.{take-all}
 use borrow.Author.Tests.{ltb-false}
-use Rattle.flash.specs.Flash.{Unit4, run, every}
-use Rattle.page.specs.declared.Outcome.{Outcome}
+use Rattle.flash.specs.Flash.{Unit4, every}
 use Rattle.page.specs.declared.ThinPage.{ThinPage}
-use Rattle.page.specs.Writing.{outcome, imageAfter, stops}
+use Rattle.page.specs.Writing.{outcome, stops}
 use Rattle.sector.specs.declared.Answer.{Answer}
 use Rattle.sector.specs.declared.Answer.the-variants.{Done, Stopped}
 use Rattle.sector.specs.Answers.{numberOf, Check, refusal, accepted}

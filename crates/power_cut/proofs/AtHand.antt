@@ -2,26 +2,23 @@
 --
 -- In order: fields of the header; the record of a page that stands; one more item; the state word.
 -- Assumes nothing.
-use mathlib.Core.Path.{_≡_, refl, sym, ap, ap₂, _∙_, subst}
-use mathlib.Core.Bool.{Bool, true, false, _&&_, _||_, not, cond}
+use mathlib.Core.Path.{_≡_, refl, sym, ap, _∙_}
+use mathlib.Core.Bool.{Bool, true, false, cond}
 use mathlib.Core.List.{List, [], _∷_, _++_, append-assoc, append-nil}
-use Prim.Native.Nat.{ℕ, zero, suc, _+_, _-_, _*_, _/_, _%_, _≤_, _<_}
+use Prim.Native.Nat.{ℕ, zero, suc, _+_, _-_, _*_, _≤_, _<_}
 use native.Mathlib.Nat.{add-zero}
 use native.Mathlib.Omega.{arith}
-use lib.Dec.{eqb, ltb}
-use lib.ListN.{length, take, drop, getD, set, replicate, length-append, length-replicate, length-drop}
+use lib.Dec.{eqb}
+use lib.ListN.{length, take, drop, getD, set, replicate, length-append, length-drop}
 use lib.Seq.{take-append-le, drop-append-le, drop-drop, set-append-seam, getD-take, getD-drop, take-at}
-use borrow.Author.Tests.{eqb-true, eq-eqb}
-use Rattle.flash.specs.Flash.{Unit4, units, run}
 use Rattle.page.specs.declared.Listed.{Listed}
 use Rattle.page.specs.declared.ThinPage.{ThinPage}
 use Rattle.page.specs.Record.{noItem, padded, withItem}
 use Rattle.sector.specs.declared.EntryMapState.{EntryMapState}
-use Rattle.sector.specs.declared.EntryMapState.the-variants.{Empty, Written, Erased, Illegal}
-use Rattle.sector.specs.declared.PageState.{PageState}
+use Rattle.sector.specs.declared.EntryMapState.the-variants.{Empty, Written, Erased}
 use Rattle.sector.specs.declared.PageState.the-variants.{Full}
 use Rattle.sector.specs.Header.{stateOfWord}
-use Rattle.sector.specs.Layout.{number, field, mapOf, stateWord, sequenceOf, versionOf, storedHeaderCrc, namespaceOf}
+use Rattle.sector.specs.Layout.{number, field, stateWord, sequenceOf, versionOf, storedHeaderCrc, namespaceOf}
 use Rattle.sector.specs.Item.{hashOfItem}
 use Rattle.sector.specs.Map.{statesOf, countIn, sameState, markRange}
 use Rattle.sector.proofs.Marks.{countIn-append}

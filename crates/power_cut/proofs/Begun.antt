@@ -4,31 +4,28 @@
 -- the page that the whole write leaves.
 -- Assumes nothing.
 use mathlib.Core.Path.{_≡_, refl, sym, ap, ap₂, _∙_, subst}
-use mathlib.Core.Bool.{Bool, true, false, _&&_, cond}
+use mathlib.Core.Bool.{Bool, true, false, cond}
 use mathlib.Core.List.{List, [], _∷_, _++_, append-assoc, append-nil}
 use Prim.Native.Nat.{ℕ, zero, suc, _+_, _-_, _*_, _/_, _≤_, _<_}
-use native.Mathlib.Nat.{suc-add, zero-add, add-zero}
-use native.Mathlib.Decide.{decLe}
+use native.Mathlib.Nat.{suc-add, zero-add}
 use native.Mathlib.Omega.{arith}
-use lib.Dec.{eqb, leb}
+use lib.Dec.{eqb}
 use lib.ListN.{length, take, drop, replicate, replicate-append-replicate, length-append, length-replicate, length-take, length-drop, take-append-drop}
-use lib.Seq.{take-append-le, take-append-add, drop-append-add, take-all, take-nil, drop-nil}
-use borrow.Author.Tests.{le-leb, lt-leb}
-use Rattle.flash.specs.Flash.{Unit4, units, run, every, allOnes}
-use Rattle.flash.proofs.Laws.{Bytes, bytes-run, Within, within-nil, within-take, run-past, run-inside, run-budget, run-append, length-run, within-units, within-wider}
-use Rattle.sector.specs.declared.EntryMapState.{EntryMapState}
-use Rattle.sector.specs.declared.EntryMapState.the-variants.{Empty, Written, Erased, Illegal}
+use lib.Seq.{take-append-le, take-append-add, drop-append-add, take-all}
+use Rattle.flash.specs.Flash.{Unit4, units, run, every}
+use Rattle.flash.proofs.Laws.{Bytes, bytes-run, Within, within-nil, within-take, run-past, run-inside, run-budget, run-append, length-run, within-units}
+use Rattle.sector.specs.declared.EntryMapState.the-variants.{Empty, Written}
 use Rattle.sector.specs.declared.PageState.the-variants.{Full}
 use Rattle.sector.specs.Header.{stateBytes}
-use Rattle.sector.specs.Layout.{chunks, entriesOf, mapOf, entryAddress}
+use Rattle.sector.specs.Layout.{chunks, entryAddress}
 use Rattle.sector.specs.Map.{statesOf, markRange, mapUnits}
-use Rattle.sector.proofs.Laws.{length-markRange, length-chunks}
-use Rattle.sector.proofs.Marks.{marked, marked-at, marked-empty, mapOf-parts, run-take-mapUnits, run-mapUnits, statesOf-splice, statesOf-markRange, length-mapUnits}
+use Rattle.sector.proofs.Laws.{length-markRange}
+use Rattle.sector.proofs.Marks.{marked, marked-at, marked-empty, mapOf-parts, run-take-mapUnits, run-mapUnits, statesOf-splice, statesOf-markRange}
 use Rattle.page.specs.Writing.{fullUnits, itemPlan}
 use Rattle.reading.specs.Reading.{isUsable, Item, item, keptFrom}
 use Rattle.opening.specs.Opening.{keptItems}
 use Rattle.reading.proofs.Verdicts.{States, Entries, Whole}
-use Rattle.reopening.proofs.Closed.{Closed, closed-append-item}
+use Rattle.reopening.proofs.Closed.{closed-append-item}
 use Rattle.reopening.proofs.Cuts.{Marking, kept-unmarked, kept-marked}
 use Rattle.power_cut.proofs.Chunks.{chunks-append}
 use Rattle.power_cut.proofs.Standing.{Standing, entries-two, standing-map-bytes, front-bytes, front-size, regroup}

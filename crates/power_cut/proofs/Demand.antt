@@ -1,17 +1,16 @@
 -- Demand 3 is proved: at every point of a history the page is held, so opening finds what was put, and a cut leaves the new item absent or whole.
 -- Assumes nothing.
-use mathlib.Core.Path.{_≡_, refl, sym, ap, ap₂, _∙_, subst}
-use mathlib.Core.Bool.{true, false, cond}
+use mathlib.Core.Path.{_≡_, refl, sym, ap, _∙_, subst}
+use mathlib.Core.Bool.{false, cond}
 use mathlib.Core.List.{List, [], _∷_, _++_, List·Memᴰ, List·Memᴰ·not-nil}
 use mathlib.Core.Logic.{_⊎_, inl, inr}
 use Prim.Native.Nat.{ℕ, zero, suc, _+_, _≤_, _<_}
 use native.Mathlib.Omega.{arith}
-use lib.Bits.{bitAnd}
-use lib.Dec.{eqb, leb}
-use lib.ListN.{length, take, getD, replicate}
+use lib.Dec.{leb}
+use lib.ListN.{length, take, replicate}
 use borrow.Author.Tests.{eq-eqb}
-use Rattle.flash.specs.Flash.{Unit4, run}
-use Rattle.flash.proofs.Laws.{OnlyClears, clears-nil, clears-cons, clears-run, all-ones-replicate, Outside, outside-within, outside-append, outside-take, take-drop-run, Within, within-wider}
+use Rattle.flash.specs.Flash.{run}
+use Rattle.flash.proofs.Laws.{OnlyClears, clears-nil, clears-cons, clears-run, all-ones-replicate, Outside, outside-within, outside-append, outside-take, take-drop-run}
 use Rattle.page.specs.declared.ThinPage.{ThinPage}
 use Rattle.page.specs.Record.{nextFree, uninitialized, withErased}
 use Rattle.page.specs.Writing.{answered, itemPlan}
@@ -21,10 +20,10 @@ use Rattle.sector.specs.Layout.{entryAddress, entryAt}
 use Rattle.sector.proofs.Marks.{within-mapUnits}
 use Rattle.erase.specs.Erase.{eraseChecks, erasePlan, erase, eraseImage}
 use Rattle.reading.specs.Reading.{Item, item}
-use Rattle.opening.specs.Opening.{headerVerdictOf, keptItems, openingPlan, opening, openingImage}
+use Rattle.opening.specs.Opening.{headerVerdictOf, keptItems, opening, openingImage}
 use Rattle.opening.specs.declared.HeaderVerdict.the-variants.{Blank}
 use Rattle.reopening.proofs.KeptItem.{member-split}
-use Rattle.power_cut.specs.History.{Sector, Write, outcomeOf, imageOf, entriesOfWrite, entryUnits, newItem, withoutItem, History, opened, written, erased}
+use Rattle.power_cut.specs.History.{Write, outcomeOf, imageOf, entriesOfWrite, entryUnits, newItem, withoutItem, History, opened, written, erased}
 use Rattle.power_cut.specs.PowerCut.{FindsWhatWasPut, Begins, AbsentOrWhole, SetsNoBit, AltersNothingElse, ErasesMarksAlone}
 use Rattle.power_cut.proofs.Standing.{Standing, standing-size, standing-kept, standing-plan}
 use Rattle.power_cut.proofs.Begun.{within-full}

@@ -3,32 +3,29 @@
 -- In order: the items and the list without an index; the marks; the page and the record behind.
 -- Assumes nothing.
 use mathlib.Core.Path.{_≡_, refl, sym, ap, ap₂, _∙_, subst}
-use mathlib.Core.Bool.{Bool, true, false, _&&_, not, cond}
-use mathlib.Core.List.{List, [], _∷_, _++_, append-assoc, List·Memᴰ}
+use mathlib.Core.Bool.{Bool, true, false, cond}
+use mathlib.Core.List.{List, [], _∷_, _++_}
 use Prim.Native.Nat.{ℕ, zero, suc, _+_, _-_, _*_, _≤_, _<_}
 use native.Mathlib.Nat.{zero-add}
 use native.Mathlib.Omega.{arith}
 use lib.Dec.{eqb}
-use lib.ListN.{length, take, drop, replicate, length-append, length-replicate}
+use lib.ListN.{length, take, drop, replicate, length-replicate}
 use lib.Seq.{take-at, drop-at}
 use borrow.Author.Tests.{eq-eqb, ne-eqb}
-use Rattle.flash.specs.Flash.{Unit4, run, every}
+use Rattle.flash.specs.Flash.{run, every}
 use Rattle.flash.proofs.Laws.{Bytes, bytes-run}
 use Rattle.page.specs.declared.Listed.{Listed}
-use Rattle.page.specs.declared.ThinPage.{ThinPage}
-use Rattle.page.specs.Record.{noItem, padded, without, inUse, withErased}
-use Rattle.page.proofs.Checks.{Usable, accepted-usable, accepted-head, accepted-tail}
-use Rattle.sector.specs.declared.EntryMapState.{EntryMapState}
+use Rattle.page.specs.Record.{noItem, padded, without, withErased}
 use Rattle.sector.specs.declared.EntryMapState.the-variants.{Empty, Written, Erased}
 use Rattle.sector.specs.Item.{hashOfItem}
 use Rattle.sector.specs.Layout.{chunks, namespaceOf}
-use Rattle.sector.specs.Map.{statesOf, markRange, mapUnits, countIn, sameState}
+use Rattle.sector.specs.Map.{markRange, mapUnits, countIn, sameState}
 use Rattle.sector.proofs.Laws.{length-markRange}
 use Rattle.sector.proofs.Marks.{marked, marked-inside, length-marked, countIn-erased, statesOf-markRange, run-mapUnits}
 use Rattle.reading.specs.Reading.{Item, item, keptFrom}
 use Rattle.opening.specs.Opening.{headerOf, listedItems}
 use Rattle.reading.proofs.Verdicts.{States, Entries}
-use Rattle.reopening.proofs.KeptItem.{Place, place, closed-erase, kept-erase, place-fits, Indices, indices-nil, indices-cons, indices-before, indices-after, member-split}
+use Rattle.reopening.proofs.KeptItem.{Place, place, closed-erase, kept-erase, place-fits, Indices, indices-nil, indices-cons, indices-before, indices-after}
 use Rattle.power_cut.specs.History.{withoutItem}
 use Rattle.power_cut.proofs.Standing.{Standing, standing-map-bytes}
 use Rattle.power_cut.proofs.AtHand.{pageOf}

@@ -2,17 +2,17 @@
 --
 -- In order: what of a header decides whether its page opens; the state word; a header with Full programmed, or not.
 -- Assumes nothing.
-use mathlib.Core.Path.{_≡_, refl, sym, ap, ap₂, _∙_, subst}
+use mathlib.Core.Path.{_≡_, refl, sym, ap, _∙_, subst}
 use mathlib.Core.Bool.{Bool, true, false, _&&_, not, cond}
 use mathlib.Core.List.{List, [], _∷_, _++_}
-use Prim.Native.Nat.{ℕ, zero, suc, _+_, _*_, _/_, _%_, _≤_, _<_}
+use Prim.Native.Nat.{ℕ, zero, suc, _+_, _≤_}
 use native.Mathlib.Omega.{arith}
 use lib.Dec.{eqb}
 use lib.ListN.{length, take, drop, getD, take-append-drop}
 use lib.Seq.{getD-take, getD-drop, take-at, drop-drop}
-use borrow.Author.Tests.{eqb-true, eq-eqb}
+use borrow.Author.Tests.{eqb-true}
 use Rattle.crc.specs.Crc.{crc32}
-use Rattle.flash.specs.Flash.{Unit4, units, run, program, allOnes}
+use Rattle.flash.specs.Flash.{units, run, program, allOnes}
 use Rattle.flash.proofs.Laws.{Bytes, bytes-nil, bytes-cons}
 use Rattle.page.specs.Record.{isUninitialized}
 use Rattle.page.specs.Writing.{fullUnits}
@@ -20,7 +20,7 @@ use Rattle.sector.specs.declared.PageState.{PageState}
 use Rattle.sector.specs.declared.PageState.the-variants.{Uninitialized, Active, Full, Freeing, Corrupt, Invalid}
 use Rattle.sector.specs.Header.{stateOfWord, headerCrc, stateBytes}
 use Rattle.sector.specs.Item.{crcStart}
-use Rattle.sector.specs.Layout.{number, field, stateWord, versionOf, storedHeaderCrc}
+use Rattle.sector.specs.Layout.{number, stateWord, versionOf, storedHeaderCrc}
 use Rattle.opening.specs.Opening.{isOpenState, headerVerdictOf}
 use Rattle.opening.specs.declared.HeaderVerdict.the-variants.{Blank, Opens, WrongPageState, WrongVersion, WrongHeaderCrc}
 use Rattle.power_cut.proofs.AtHand.{field-front}

@@ -2,38 +2,34 @@
 --
 -- In order: a page that is held; what opening leaves; one more append or copy; what opening finds of it.
 -- Assumes nothing.
-use mathlib.Core.Path.{_≡_, refl, sym, ap, ap₂, _∙_, subst}
-use mathlib.Core.Bool.{Bool, true, false, _&&_, not, cond, and-eq-true-iff}
-use mathlib.Core.List.{List, [], _∷_, _++_}
-use mathlib.Core.Logic.{_⊎_, inl, inr}
-use Prim.Native.Nat.{ℕ, zero, suc, _+_, _-_, _*_, _≤_, _<_}
+use mathlib.Core.Path.{_≡_, refl, sym, ap, _∙_, subst}
+use mathlib.Core.Bool.{Bool, true, false, _&&_, not, cond}
+use mathlib.Core.List.{List, [], _++_}
+use Prim.Native.Nat.{ℕ, _+_, _-_, _*_}
 use native.Mathlib.Omega.{arith}
-use lib.Dec.{eqb, leb, ltb}
-use lib.ListN.{length, take, drop, replicate, take-append-drop}
+use lib.Dec.{eqb}
+use lib.ListN.{length, take, drop, replicate}
 use lib.Seq.{take-at, length-take-le}
 use borrow.Author.Tests.{eq-eqb}
 use Rattle.flash.specs.Flash.{run, allOnes}
-use Rattle.flash.proofs.Laws.{Bytes, bytes-take, bytes-run, replicate-all-ones, length-run}
+use Rattle.flash.proofs.Laws.{Bytes, replicate-all-ones}
 use Rattle.page.specs.declared.ThinPage.{ThinPage}
-use Rattle.page.specs.Record.{isUninitialized, nextFree, uninitialized, withItem}
-use Rattle.page.specs.Writing.{answered, itemPlan}
-use Rattle.sector.specs.declared.Answer.the-variants.{Done, CorruptedData}
-use Rattle.sector.specs.declared.EntryMapState.the-variants.{Empty, Written, Erased}
+use Rattle.page.specs.Record.{isUninitialized, uninitialized}
+use Rattle.sector.specs.declared.Answer.the-variants.{Done}
 use Rattle.sector.specs.Header.{stateOfWord, headerCrc}
 use Rattle.sector.specs.Layout.{stateWord, versionOf, storedHeaderCrc, mapOf, entriesOf}
-use Rattle.sector.specs.Map.{statesOf}
 use Rattle.sector.proofs.Marks.{image-parts, mapOf-parts}
-use Rattle.reading.specs.Reading.{Item, item, keptFrom}
-use Rattle.opening.specs.Opening.{isOpenState, headerVerdictOf, keptItems, openedMap, openingPlan, openedPage, answerFor, planFor, opening, openingImage}
+use Rattle.reading.specs.Reading.{Item}
+use Rattle.opening.specs.Opening.{isOpenState, headerVerdictOf, keptItems, openedMap, openingPlan, openedPage, answerFor, opening, openingImage}
 use Rattle.opening.specs.declared.HeaderVerdict.{HeaderVerdict}
 use Rattle.opening.specs.declared.HeaderVerdict.the-variants.{Blank, Opens, WrongPageState, WrongVersion, WrongHeaderCrc}
 use Rattle.reopening.proofs.Cuts.{keptFrom-empties}
 use Rattle.power_cut.specs.History.{Sector}
-use Rattle.power_cut.proofs.Standing.{Standing, standing-map, standing-kept, standing-plan}
+use Rattle.power_cut.proofs.Standing.{Standing, standing-map}
 use Rattle.power_cut.proofs.OpenedPage.{run-opening, opened-size, opened-standing}
 use Rattle.power_cut.proofs.Laid.{bytes-of}
-use Rattle.power_cut.proofs.AtHand.{pageOf, opened-is, standing-page}
-use Rattle.power_cut.proofs.Headers.{HeaderOpens, opens-facts, opens-of, header-opens, image-opens}
+use Rattle.power_cut.proofs.AtHand.{pageOf, opened-is}
+use Rattle.power_cut.proofs.Headers.{HeaderOpens, opens-facts, header-opens, image-opens}
 
 -- ---- a page that is held
 

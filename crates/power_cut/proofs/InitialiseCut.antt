@@ -2,11 +2,11 @@
 --
 -- The version comes with the third unit and the CRC with the eighth; those between are 0xFF. So from the third unit on the page is the finished
 -- one exactly where its CRC is 0xFFFFFFFF. Assumes nothing.
-use mathlib.Core.Path.{_≡_, refl, sym, ap, _∙_, subst}
-use mathlib.Core.Bool.{Bool, true, false, not, cond}
-use mathlib.Core.List.{List, [], _∷_, _++_, append-nil}
+use mathlib.Core.Path.{_≡_, refl, sym, ap, _∙_}
+use mathlib.Core.Bool.{Bool, true, false, cond}
+use mathlib.Core.List.{List, [], _++_, append-nil}
 use mathlib.Core.Logic.{_⊎_, inl, inr}
-use Prim.Native.Nat.{ℕ, zero, suc, _+_, _-_, _*_, _<_, _≤_}
+use Prim.Native.Nat.{ℕ, zero, suc, _+_, _-_, _*_, _≤_}
 use native.Mathlib.Omega.{arith}
 use lib.Dec.{eqb}
 use lib.ListN.{length, take, replicate, length-take}
@@ -14,7 +14,7 @@ use lib.Seq.{take-all, take-length}
 use borrow.Author.Tests.{eqb-true}
 use Rattle.crc.specs.Crc.{crc32}
 use Rattle.flash.specs.Flash.{Unit4, units, run, program, allOnes}
-use Rattle.flash.proofs.Laws.{Bytes, bytes-nil, bytes-cons, bytes-append, bytes-ones, bytes-take, all-ones-replicate, length-units-whole, program-erased, run-take-units}
+use Rattle.flash.proofs.Laws.{Bytes, bytes-append, bytes-ones, bytes-take, length-units-whole, program-erased, run-take-units}
 use Rattle.page.specs.Record.{fitToUse, uninitialized}
 use Rattle.page.specs.Writing.{answered, imageAfter}
 use Rattle.sector.specs.declared.Answer.the-variants.{Done, CorruptedData}
@@ -25,7 +25,6 @@ use Rattle.sector.specs.Layout.{littleEndian}
 use Rattle.sector.specs.Map.{countIn}
 use Rattle.header.specs.Calls.{initialiseChecks, initialisePlan, initialiseImage}
 use Rattle.opening.specs.Opening.{headerVerdictOf, opening}
-use Rattle.opening.specs.declared.HeaderVerdict.the-variants.{WrongVersion, WrongHeaderCrc}
 use Rattle.power_cut.specs.PowerCut.{InitialiseCut}
 use Rattle.power_cut.proofs.Laid.{bytes-littleEndian}
 use Rattle.power_cut.proofs.Demand.{blank-opening}

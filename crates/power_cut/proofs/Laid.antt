@@ -6,26 +6,23 @@ use mathlib.Core.Path.{_≡_, refl, sym, ap, ap₂, _∙_, subst}
 use mathlib.Core.Bool.{true}
 use mathlib.Core.List.{List, [], _∷_, _++_, append-assoc, append-nil}
 use Prim.Native.Nat.{ℕ, zero, suc, _+_, _-_, _*_, _/_, _%_, _≤_, _<_}
-use native.Mathlib.Nat.{sub-self}
 use native.Mathlib.Omega.{arith}
 use lib.Dec.{ltb}
 use lib.ListN.{length, take, drop, replicate, length-append, length-replicate, length-drop}
 use lib.Seq.{take-all, take-at, drop-at, drop-drop, length-take-le}
 use borrow.Author.Tests.{ltb-true}
 use mathlib.Core.Bool.{and-eq-true-iff}
-use Rattle.flash.specs.Flash.{Unit4, units, run, every}
-use Rattle.flash.proofs.Laws.{Bytes, bytes-nil, bytes-cons, bytes-append, bytes-ones, bytes-take, bytes-drop, bytes-run, run-append, run-units-erased, Within, within-units, within-wider, within-append}
+use Rattle.flash.specs.Flash.{units, run}
+use Rattle.flash.proofs.Laws.{Bytes, bytes-nil, bytes-cons, bytes-append, bytes-ones, bytes-take, bytes-drop, bytes-run, run-append, run-units-erased, within-units, within-wider, within-append}
 use Rattle.crc.specs.Crc.{crc32}
 use Rattle.sector.specs.Item.{crcStart, itemBytes, sizedData}
-use Rattle.sector.specs.Layout.{entryAddress, entryAt, chunks, entriesOf, mapOf, spanOf, littleEndian}
-use Rattle.sector.specs.Map.{statesOf}
-use Rattle.sector.proofs.Laws.{length-statesOf, length-entriesOf, length-chunks}
+use Rattle.sector.specs.Layout.{entryAddress, entryAt, chunks, entriesOf, spanOf, littleEndian}
+use Rattle.sector.proofs.Laws.{length-entriesOf, length-chunks}
 use Rattle.sector.specs.Types.{itemType, hasPayload}
 use Rattle.append.specs.declared.Single.{Single}
 use Rattle.append.specs.declared.Variable.{Variable}
 use Rattle.append.specs.Append.{isSingle, singleBytes, spanFor, variableHeader}
 use Rattle.copy.specs.Copy.{copiedBytes}
-use Rattle.opening.specs.Opening.{keptItems}
 use Rattle.reading.specs.Reading.{Item}
 use Rattle.reading.proofs.Verdicts.{Entries, Whole, whole-span}
 use Rattle.power_cut.specs.History.{allBytes, SingleRequest, VariableRequest, KeptIn, payloadEntries}
@@ -35,7 +32,7 @@ use Rattle.power_cut.proofs.Chunks.{chunks-take}
 use Rattle.power_cut.proofs.Found.{find}
 use Rattle.power_cut.proofs.NewItem.{single-whole, variable-whole}
 use Rattle.power_cut.proofs.Begun.{Lays}
-use Rattle.reopening.proofs.KeptItem.{WholeAt, kept-whole}
+use Rattle.reopening.proofs.KeptItem.{WholeAt}
 
 -- ---- bytes
 

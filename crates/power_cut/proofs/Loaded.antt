@@ -3,23 +3,22 @@
 -- In order: the rules of a payload; an item that the reading keeps; data that it keeps; every history.
 -- Assumes nothing.
 use mathlib.Core.Path.{_≡_, refl, sym, ap, _∙_, subst}
-use mathlib.Core.Bool.{Bool, true, false, cond}
+use mathlib.Core.Bool.{Bool, true, false}
 use mathlib.Core.List.{List, [], _∷_, _++_, List·Memᴰ}
 use mathlib.Core.Option.{none}
-use Prim.Native.Nat.{ℕ, zero, suc, _+_, _-_, _*_, _≤_, _<_}
+use Prim.Native.Nat.{ℕ, suc, _+_, _-_, _*_, _≤_, _<_}
 use native.Mathlib.Numerals.{add-one}
 use native.Mathlib.Omega.{arith}
 use lib.ListN.{length, take, drop, replicate, length-take, length-drop, length-replicate}
-use lib.Seq.{length-take-le, take-take, take-append-le}
+use lib.Seq.{take-take, take-append-le}
 use borrow.Author.Tests.{eq-eqb, ne-eqb, lt-ltb, le-ltb, ltb-false}
 use Rattle.page.specs.declared.ThinPage.{ThinPage}
 use Rattle.sector.specs.declared.Answer.the-variants.{Done}
 use Rattle.sector.specs.Answers.{accepted}
 use Rattle.sector.specs.Item.{loads}
 use Rattle.sector.specs.Layout.{entryAddress, mapOf, entryAt, entriesOf, spanOf, sizeOf}
-use Rattle.sector.specs.Map.{statesOf}
 use Rattle.sector.specs.Types.{itemType, hasPayload, sanitized}
-use Rattle.sector.proofs.Laws.{length-statesOf, length-chunks, length-entriesOf}
+use Rattle.sector.proofs.Laws.{length-chunks, length-entriesOf}
 use Rattle.load.specs.Load.{loadItem}
 use Rattle.payload.specs.Payload.{roundedUp, dataChecks, dataAnswer, dataOutput}
 use Rattle.append.specs.declared.Variable.{Variable}
@@ -27,13 +26,13 @@ use Rattle.append.specs.Append.{spanFor, variableHeader}
 use Rattle.reading.specs.declared.Reason.the-variants.{SizeTooBig, PayloadCrcWrong}
 use Rattle.reading.specs.Reading.{firstRule, isPayload, covered, joined, sizeTooBig, payloadCrcWrong, payloadRefusal, Item, item}
 use Rattle.reading.proofs.Entries.{take-joined, entries-from}
-use Rattle.reading.proofs.Verdicts.{Entries, Whole, header-loads, whole-span}
-use Rattle.opening.specs.Opening.{headerOf, keptItems}
+use Rattle.reading.proofs.Verdicts.{Entries, header-loads, whole-span}
+use Rattle.opening.specs.Opening.{headerOf}
 use Rattle.reopening.proofs.KeptItem.{WholeAt}
-use Rattle.power_cut.specs.History.{VariableRequest, History, payloadEntries}
+use Rattle.power_cut.specs.History.{VariableRequest, payloadEntries}
 use Rattle.power_cut.specs.PowerCut.{LoadsWhatWasPut, LoadsData}
 use Rattle.power_cut.proofs.Found.{map-size, find}
-use Rattle.power_cut.proofs.NewItem.{behind, new-size, payload-there, header-typed}
+use Rattle.power_cut.proofs.NewItem.{new-size, payload-there, header-typed}
 use Rattle.power_cut.proofs.Standing.{standing-size}
 use Rattle.power_cut.proofs.Held.{Known, held, blank}
 use Rattle.power_cut.proofs.Demand.{known, finds-what-was-put}

@@ -3,19 +3,19 @@
 -- In order: a map that is new up to a byte and old behind it; one unit; the units in which two maps differ, all of them and the first n.
 -- Assumes nothing.
 use mathlib.Core.Path.{_≡_, refl, sym, ap, ap₂, _∙_}
-use mathlib.Core.Bool.{Bool, true, false, _&&_, cond, and-eq-true-iff}
-use mathlib.Core.List.{List, [], _∷_, _++_, append-assoc, append-nil}
+use mathlib.Core.Bool.{Bool, true, false, cond, and-eq-true-iff}
+use mathlib.Core.List.{List, [], _∷_, _++_, append-assoc}
 use Prim.Native.Nat.{ℕ, zero, suc, _+_, _-_, _*_, _≤_, _<_}
 use native.Mathlib.Nat.{add-zero, add-suc, suc-add}
 use native.Mathlib.Omega.{arith}
 use lib.Bits.{and-self}
 use lib.Dec.{eqb}
-use lib.ListN.{length, take, drop, length-append, length-take, length-drop, take-append-drop}
-use lib.Seq.{take-at, drop-at, take-add, drop-drop, take-take, length-take-le, take-append-le, drop-append-le, take-nil, take-all}
+use lib.ListN.{length, take, drop, length-drop, take-append-drop}
+use lib.Seq.{take-at, drop-at, take-add, drop-drop, length-take-le, take-nil, take-all}
 use borrow.Author.Tests.{eqb-true}
 use Rattle.flash.specs.Flash.{Unit4, units, run, program}
-use Rattle.flash.proofs.Laws.{Bytes, bytes-program, OnlyClears, clears-nil, clears-cons, clears-refl, length-clears, length-units-whole, program-past, program-inside, program-splice, run-units, run-append, run-budget}
-use Rattle.sector.specs.Layout.{mapOffset, field, sameBytes}
+use Rattle.flash.proofs.Laws.{Bytes, bytes-program, OnlyClears, clears-nil, clears-cons, length-clears, length-units-whole, program-past, program-inside, program-splice, run-units, run-append, run-budget}
+use Rattle.sector.specs.Layout.{mapOffset, sameBytes}
 use Rattle.marks.specs.Marks.{mapUnit, changedUnits}
 
 -- ---- new up to a byte, old behind it

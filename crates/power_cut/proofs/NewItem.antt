@@ -2,15 +2,15 @@
 --
 -- In order: types with a byte of their own; the fields of a new item's bytes; a single entry; a payload.
 -- Assumes nothing.
-use mathlib.Core.Path.{_≡_, refl, sym, ap, ap₂, _∙_}
-use mathlib.Core.Bool.{Bool, true, false, _&&_, _||_, not, cond, and-false}
-use mathlib.Core.List.{List, [], _∷_, _++_, append-assoc}
+use mathlib.Core.Path.{_≡_, refl, sym, ap, _∙_}
+use mathlib.Core.Bool.{Bool, true, false, not, cond, and-false}
+use mathlib.Core.List.{List, [], _∷_, _++_}
 use mathlib.Core.Logic.{_⊎_, inl, inr}
-use mathlib.Core.Option.{Option, none, some}
-use Prim.Native.Nat.{ℕ, zero, suc, _+_, _-_, _*_, _/_, _^_, _≤_, _<_}
+use mathlib.Core.Option.{none}
+use Prim.Native.Nat.{ℕ, _+_, _-_, _*_, _^_, _≤_, _<_}
 use native.Mathlib.Omega.{arith}
-use lib.Dec.{eqb, ltb}
-use lib.ListN.{length, take, drop, replicate, length-append, length-replicate}
+use lib.Dec.{eqb}
+use lib.ListN.{length, take, drop, replicate, length-append}
 use lib.Seq.{take-at, drop-at, drop-drop, take-take}
 use borrow.Author.Tests.{eqb-true, eq-eqb, ne-eqb, le-ltb}
 use Rattle.crc.specs.Crc.{crc32}
@@ -19,15 +19,15 @@ use Rattle.flash.specs.Flash.{allOnes, isOnes}
 use Rattle.sector.specs.declared.ItemType.{ItemType}
 use Rattle.sector.specs.declared.ItemType.the-variants.{U8, I8, U16, I16, U32, I32, U64, I64, Sized, Blob, BlobData, BlobIndex, Any}
 use Rattle.sector.specs.Item.{crcStart, itemCrc, crcRight, itemBytes, sizedData}
-use Rattle.sector.specs.Layout.{littleEndian, number, storedCrc, sizeOf, storedPayloadCrc, spanOf}
-use Rattle.sector.specs.Types.{byteOf, knownTypes, typeAmong, itemType, typeByte, hasPayload, sanitized}
+use Rattle.sector.specs.Layout.{number, sizeOf, storedPayloadCrc}
+use Rattle.sector.specs.Types.{byteOf, knownTypes, typeAmong, itemType, typeByte, hasPayload}
 use Rattle.sector.proofs.Laws.{number-littleEndian, length-chunks}
 use Rattle.append.specs.declared.Single.{Single}
 use Rattle.append.specs.declared.Variable.{Variable}
 use Rattle.append.specs.Append.{isSingle, singleBytes, spanFor, variableHeader}
-use Rattle.reading.specs.Reading.{firstRule, isPayload, covered, spanOffPage, wrongSpan, headerRefusal, joined, sizeTooBig, payloadCrcWrong, payloadRefusal}
+use Rattle.reading.specs.Reading.{isPayload, covered, spanOffPage, wrongSpan, headerRefusal, joined, payloadRefusal}
 use Rattle.reading.proofs.Verdicts.{Entries, Whole}
-use Rattle.power_cut.specs.History.{SingleRequest, VariableRequest, payloadEntries}
+use Rattle.power_cut.specs.History.{VariableRequest, payloadEntries}
 use Rattle.reading.proofs.Entries.{joined-chunks}
 
 -- ---- types with a byte of their own

@@ -4,25 +4,23 @@
 -- Assumes nothing.
 use mathlib.Core.Path.{_≡_, refl, sym, ap, ap₂, _∙_, subst}
 use mathlib.Core.Bool.{true, and-eq-true-iff}
-use mathlib.Core.List.{List, [], _∷_, _++_, append-assoc}
-use Prim.Native.Nat.{ℕ, zero, suc, _+_, _-_, _*_, _≤_}
-use native.Mathlib.Nat.{suc-inj, suc-ne-zero}
+use mathlib.Core.List.{List, [], _∷_, _++_}
+use Prim.Native.Nat.{ℕ, zero, suc, _+_, _-_, _*_}
 use native.Mathlib.Omega.{arith}
-use lib.ListN.{length, take, drop, replicate, replicate-append-replicate, length-append, length-take, length-drop, length-replicate, take-append-drop}
-use lib.Seq.{take-at, drop-at, length-take-le, drop-drop}
-use Rattle.flash.specs.Flash.{Unit4, run, every, allOnes}
-use Rattle.flash.proofs.Laws.{Bytes, bytes-take, bytes-drop, bytes-append, bytes-run, OnlyClears, length-clears, replicate-all-ones, run-append, length-run}
-use Rattle.sector.specs.declared.EntryMapState.{EntryMapState}
+use lib.ListN.{length, take, drop, replicate, replicate-append-replicate, length-append, length-drop, length-replicate, take-append-drop}
+use lib.Seq.{take-at, drop-at, length-take-le}
+use Rattle.flash.specs.Flash.{run, every, allOnes}
+use Rattle.flash.proofs.Laws.{Bytes, bytes-take, bytes-drop, bytes-run, OnlyClears, length-clears, replicate-all-ones, run-append}
 use Rattle.sector.specs.declared.EntryMapState.the-variants.{Empty}
 use Rattle.sector.specs.Layout.{chunks, entriesOf, mapOf}
 use Rattle.sector.specs.Map.{unpack, pack, statesOf}
 use Rattle.sector.proofs.Laws.{length-statesOf, length-unpack, length-chunks}
-use Rattle.sector.proofs.Marks.{states-refl, states-append, clears-pack, pack-unpack, unpack-pack, length-pack, bytes-pack, image-parts, mapOf-parts, entries-parts}
-use Rattle.reading.specs.Reading.{Item, keptFrom, openedStates}
+use Rattle.sector.proofs.Marks.{states-refl, states-append, clears-pack, pack-unpack, unpack-pack, image-parts}
+use Rattle.reading.specs.Reading.{keptFrom, openedStates}
 use Rattle.marks.specs.Marks.{changedUnits}
 use Rattle.opening.specs.Opening.{keptItems, openedMap, firstMap, openingPlan}
 use Rattle.reading.proofs.Verdicts.{States, Entries}
-use Rattle.reopening.proofs.Closed.{Closed, length-closed}
+use Rattle.reopening.proofs.Closed.{length-closed}
 use Rattle.reopening.proofs.Reopened.{length-openedStates, kept-openedStates}
 use Rattle.reopening.proofs.TwoPasses.{clears-firstStates, clears-secondPass}
 use Rattle.reopening.proofs.OpenedFront.{Opened, opened}

@@ -3,18 +3,16 @@
 -- In order: a page with another map that reads the same; the map in the middle of opening; the cut.
 -- Assumes nothing.
 use mathlib.Core.Path.{_≡_, refl, sym, ap, ap₂, _∙_, subst}
-use mathlib.Core.Bool.{true, cond}
 use mathlib.Core.List.{List, [], _∷_, _++_}
-use Prim.Native.Nat.{ℕ, zero, suc, _+_, _-_, _*_, _≤_, _<_}
+use Prim.Native.Nat.{ℕ, zero, suc, _+_, _-_, _*_, _≤_}
 use native.Mathlib.Decide.{decLe}
 use native.Mathlib.Nat.{suc-inj}
 use native.Mathlib.Omega.{arith}
-use lib.Dec.{eqb}
 use lib.ListN.{length, take, drop, getD, length-append, length-take, length-drop, take-append-drop}
 use lib.Seq.{take-at, length-take-le, getD-take, take-nil, take-all, take-append-le}
 use borrow.Author.Tests.{eq-eqb}
 use Rattle.flash.specs.Flash.{Unit4, run}
-use Rattle.flash.proofs.Laws.{Bytes, OnlyClears, length-clears, bytes-run, length-run, run-append, run-budget}
+use Rattle.flash.proofs.Laws.{Bytes, length-clears, bytes-run, run-budget}
 use Rattle.page.specs.Writing.{answered}
 use Rattle.sector.specs.declared.Answer.the-variants.{Done}
 use Rattle.sector.specs.Layout.{field, versionOf, mapOf, entriesOf, chunks}
@@ -22,7 +20,7 @@ use Rattle.sector.specs.Map.{statesOf, unpack, pack}
 use Rattle.sector.specs.declared.EntryMapState.{EntryMapState}
 use Rattle.sector.proofs.Laws.{length-statesOf, length-unpack}
 use Rattle.sector.proofs.Marks.{StatesClear, states-nil, states-cons, image-parts, mapOf-parts, entries-parts, unpack-pack, unpack-splice}
-use Rattle.reading.specs.Reading.{Item, keptFrom, openedStates}
+use Rattle.reading.specs.Reading.{keptFrom, openedStates}
 use Rattle.marks.specs.Marks.{changedUnits}
 use Rattle.opening.specs.Opening.{headerVerdictOf, keptItems, openedMap, firstMap, openingPlan, openedPage, opening, openingImage, planFor}
 use Rattle.opening.specs.declared.HeaderVerdict.{HeaderVerdict}
@@ -30,10 +28,9 @@ use Rattle.opening.specs.declared.HeaderVerdict.the-variants.{Blank, Opens, Wro
 use Rattle.reopening.proofs.Reopened.{length-openedStates}
 use Rattle.reading.proofs.Verdicts.{States, Entries}
 use Rattle.reopening.proofs.TwoPasses.{the-old, the-new, Mix, mix-nil, mix-cons, mix-take, firstStates, clears-firstStates, CutOpening, in-first, in-second, openedStates-cut, keptFrom-cut}
-use Rattle.power_cut.specs.History.{Sector}
 use Rattle.power_cut.specs.PowerCut.{OpeningCut}
 use Rattle.power_cut.proofs.Found.{map-size}
-use Rattle.power_cut.proofs.MapUnits.{splice, splice-all, Reached, reached, run-changed}
+use Rattle.power_cut.proofs.MapUnits.{splice, splice-all, reached, run-changed}
 use Rattle.power_cut.proofs.OpenedPage.{states, entries, same-size, map-first, map-second, run-opening}
 use Rattle.power_cut.proofs.Laid.{bytes-of}
 use Rattle.power_cut.proofs.AtHand.{field-front}

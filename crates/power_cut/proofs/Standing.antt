@@ -3,25 +3,23 @@
 -- In order: the page; what its parts are; what the reading keeps of it; that opening changes nothing of it.
 -- Assumes nothing.
 use mathlib.Core.Path.{_≡_, refl, sym, ap, ap₂, _∙_, subst}
-use mathlib.Core.Bool.{Bool, true, false, _&&_, cond}
+use mathlib.Core.Bool.{true}
 use mathlib.Core.List.{List, [], _∷_, _++_, append-assoc}
 use Prim.Native.Nat.{ℕ, zero, suc, _+_, _-_, _*_, _≤_}
 use native.Mathlib.Omega.{arith}
-use lib.Dec.{eqb}
-use lib.ListN.{length, take, drop, replicate, replicate-append-replicate, length-append, length-replicate, take-append-drop}
+use lib.ListN.{length, drop, replicate, replicate-append-replicate, length-append, length-replicate, take-append-drop}
 use lib.Seq.{take-at, drop-at}
 use borrow.Author.Tests.{eq-eqb}
-use Rattle.flash.specs.Flash.{Unit4, units, run, every, allOnes}
+use Rattle.flash.specs.Flash.{every, allOnes}
 use Rattle.flash.proofs.Laws.{Bytes, bytes-take, bytes-drop, all-ones-replicate}
-use Rattle.sector.specs.declared.EntryMapState.{EntryMapState}
-use Rattle.sector.specs.declared.EntryMapState.the-variants.{Empty, Written, Erased, Illegal}
+use Rattle.sector.specs.declared.EntryMapState.the-variants.{Empty}
 use Rattle.sector.specs.Layout.{entryAddress, chunks, entriesOf, mapOf, sameBytes}
 use Rattle.sector.specs.Map.{unpack, pack, statesOf}
 use Rattle.sector.proofs.Marks.{mapOf-parts, entries-parts, pack-unpack}
 use Rattle.reading.specs.Reading.{Item, keptFrom, openedStates}
 use Rattle.marks.specs.Marks.{firstPass, mapUnit, changedUnits}
 use Rattle.opening.specs.Opening.{keptItems, openedMap, refusedHeaders, firstMap, openingPlan}
-use Rattle.reading.proofs.Verdicts.{States, Entries}
+use Rattle.reading.proofs.Verdicts.{States}
 use Rattle.reopening.proofs.Closed.{Closed}
 use Rattle.reopening.proofs.TwoPasses.{firstPass-same}
 use Rattle.reopening.proofs.Cuts.{kept-unmarked, openedStates-unmarked-blank}

@@ -2,37 +2,37 @@
 --
 -- In order: the page at hand; what a write that begins has; a single entry; a payload; a copy.
 -- Assumes nothing.
-use mathlib.Core.Path.{_≡_, refl, sym, ap, ap₂, _∙_, subst}
-use mathlib.Core.Bool.{Bool, true, false, _&&_, _||_, not, cond, and-eq-true-iff, Bool·not-not}
+use mathlib.Core.Path.{_≡_, refl, sym, ap, ap₂, _∙_}
+use mathlib.Core.Bool.{Bool, true, false, _||_, not, and-eq-true-iff}
 use mathlib.Core.List.{List, [], _∷_, _++_, append-nil}
-use mathlib.Core.Logic.{_⊎_, inl, inr}
+use mathlib.Core.Logic.{inl}
 use Prim.Native.Nat.{ℕ, zero, suc, _+_, _-_, _*_, _≤_, _<_}
 use native.Mathlib.Omega.{arith}
 use lib.Dec.{eqb, ltb}
-use lib.ListN.{length, take, drop, replicate}
-use lib.Seq.{take-at, drop-at}
-use borrow.Author.Tests.{ltb-false, eqb-true, not-false}
-use Rattle.flash.specs.Flash.{Unit4, units, run, every}
+use lib.ListN.{length, take, replicate}
+use lib.Seq.{take-at}
+use borrow.Author.Tests.{ltb-false, not-false}
+use Rattle.flash.specs.Flash.{Unit4, run, every}
 use Rattle.page.specs.declared.ThinPage.{ThinPage}
 use Rattle.page.specs.Record.{nextFree, free, withItem}
 use Rattle.page.specs.Writing.{badImage, badRecord, notActive, isActive, overFree, itemPlan, stops, outcome, imageAfter}
 use Rattle.page.proofs.Checks.{Usable, accepted-usable, accepted-head, accepted-tail}
-use Rattle.page.proofs.Laws.{Fit, fit-clauses}
+use Rattle.page.proofs.Laws.{fit-clauses}
 use Rattle.sector.specs.declared.Answer.the-variants.{Done, BadImage, BadRequest, ValueTooLong, PageFull, CorruptedData, KeyNotFound}
-use Rattle.sector.specs.declared.EntryMapState.the-variants.{Empty, Written, Erased}
+use Rattle.sector.specs.declared.EntryMapState.the-variants.{Written, Erased}
 use Rattle.sector.specs.declared.PageState.{PageState}
 use Rattle.sector.specs.declared.PageState.the-variants.{Uninitialized, Active, Full, Freeing, Corrupt, Invalid}
 use Rattle.sector.specs.Answers.{Check, accepted}
 use Rattle.sector.specs.Header.{stateOfWord}
 use Rattle.sector.specs.Item.{hashOf, hashOfItem, itemBytes, sizedData, loads}
-use Rattle.sector.specs.Layout.{stateWord, entriesOf, entryAt, namespaceOf, keyOf, chunkOf, spanOf}
+use Rattle.sector.specs.Layout.{stateWord, entriesOf, entryAt, namespaceOf, spanOf}
 use Rattle.sector.specs.Map.{countIn}
 use Rattle.sector.specs.Types.{itemType, hasPayload}
 use Rattle.append.specs.declared.Single.{Single}
 use Rattle.append.specs.declared.Variable.{Variable}
 use Rattle.append.specs.Append.{isSingle, singleRequest, singleChecks, singleBytes, singlePlan, withSingle, appendSingle, appendSingleImage, spanFor, variableRequest, variableChecks, variableHeader, variablePlan, withVariable, appendVariable, appendVariableImage}
-use Rattle.copy.specs.Copy.{copyChecks, copiedBytes, copyPlan, withCopy, copyIn, copyInImage}
-use Rattle.reading.specs.Reading.{Item, item}
+use Rattle.copy.specs.Copy.{copyChecks, copyPlan, withCopy, copyIn, copyInImage}
+use Rattle.reading.specs.Reading.{Item}
 use Rattle.opening.specs.Opening.{listedItems}
 use Rattle.reading.proofs.Verdicts.{States, Entries}
 use Rattle.reopening.proofs.Closed.{Closed}

@@ -3,39 +3,34 @@
 -- In order: an erased page refuses; the header of a cut write; a write cut after n units; a write that is done.
 -- Assumes nothing.
 use mathlib.Core.Path.{_≡_, refl, sym, ap, ap₂, _∙_, subst}
-use mathlib.Core.Bool.{Bool, true, false, not, cond}
+use mathlib.Core.Bool.{Bool, true, false, cond}
 use mathlib.Core.List.{List, [], _∷_, _++_}
-use mathlib.Core.Logic.{_⊎_, inl, inr}
-use Prim.Native.Nat.{ℕ, zero, suc, _+_, _-_, _*_, _≤_, _<_}
+use Prim.Native.Nat.{ℕ, suc, _+_, _-_, _*_, _≤_, _<_}
 use native.Mathlib.Decide.{decLe}
 use native.Mathlib.Omega.{arith}
-use lib.Dec.{eqb, leb}
+use lib.Dec.{leb}
 use lib.ListN.{length, take, drop, replicate}
 use lib.Seq.{take-at}
 use borrow.Author.Tests.{eq-eqb, le-leb, lt-leb}
 use Rattle.flash.specs.Flash.{Unit4, run}
 use Rattle.flash.proofs.Laws.{Bytes, bytes-take, length-run}
-use Rattle.page.specs.declared.ThinPage.{ThinPage}
-use Rattle.page.specs.Record.{nextFree, uninitialized, withItem}
+use Rattle.page.specs.Record.{uninitialized}
 use Rattle.page.specs.Writing.{badImage, badRecord, fullUnits, stops}
-use Rattle.page.proofs.Checks.{accepted-head, accepted-tail}
-use Rattle.sector.specs.declared.Answer.the-variants.{Done, BadImage, BadRecord, WrongState, Stopped}
+use Rattle.sector.specs.declared.Answer.the-variants.{Done}
 use Rattle.sector.specs.declared.PageState.the-variants.{Active}
-use Rattle.sector.specs.Answers.{Check, accepted}
-use Rattle.sector.specs.Header.{stateOfWord, stateBytes}
-use Rattle.sector.specs.Layout.{stateWord}
-use Rattle.append.specs.Append.{singleRequest, singleChecks, singlePlan, withSingle, appendSingle, variableChecks, variablePlan, withVariable, appendVariable}
+use Rattle.sector.specs.Header.{stateBytes}
+use Rattle.append.specs.Append.{singleChecks, singlePlan, withSingle, appendSingle, variableChecks, variablePlan, withVariable, appendVariable}
 use Rattle.copy.specs.Copy.{copyChecks, copyPlan, withCopy, copyIn}
 use Rattle.reading.specs.Reading.{Item, item}
-use Rattle.opening.specs.Opening.{headerVerdictOf, keptItems, opening}
-use Rattle.power_cut.specs.History.{Write, a-single, a-variable, a-copy, outcomeOf, imageOf, entriesOfWrite, entryUnits, newItem}
+use Rattle.opening.specs.Opening.{keptItems, opening}
+use Rattle.power_cut.specs.History.{Write, a-single, a-variable, a-copy, outcomeOf, imageOf, entryUnits, newItem}
 use Rattle.power_cut.specs.PowerCut.{Begins}
 use Rattle.power_cut.proofs.Standing.{Standing, standing-size, front-bytes}
-use Rattle.power_cut.proofs.Begun.{Lays, marks, plan, headerAt, restAt, image-before, image-after, headerAt-size, kept-before, kept-after, header-after, run-plan, standing-after, after-header, after-map, after-front}
-use Rattle.power_cut.proofs.AtHand.{pageOf, with-item}
-use Rattle.power_cut.proofs.Headers.{HeaderOpens, opens-of, header-opens, image-opens, active-word, FullOrNot, full-cut, full-whole, full-drop, full-opens, full-state}
+use Rattle.power_cut.proofs.Begun.{marks, plan, headerAt, restAt, image-before, image-after, headerAt-size, kept-before, kept-after, header-after, run-plan, standing-after, after-header, after-map, after-front}
+use Rattle.power_cut.proofs.AtHand.{with-item}
+use Rattle.power_cut.proofs.Headers.{HeaderOpens, opens-of, header-opens, image-opens, active-word, full-cut, full-whole, full-drop, full-opens, full-state}
 use Rattle.power_cut.proofs.Accepted.{begins-accepted}
-use Rattle.power_cut.proofs.Started.{page, start, counted, next-is, Started, started}
+use Rattle.power_cut.proofs.Started.{page, start, counted, next-is, Started}
 use Rattle.power_cut.proofs.Held.{Held}
 
 -- ---- an erased page

@@ -14,7 +14,6 @@ use lib.Bits.{bitAnd}
 use lib.Dec.{leb}
 use lib.ListN.{length, take, getD, replicate}
 use Rattle.flash.specs.Flash.{run}
-use Rattle.page.specs.declared.Outcome.{Outcome}
 use Rattle.page.specs.declared.ThinPage.{ThinPage}
 use Rattle.page.specs.Record.{nextFree, fitToUse, uninitialized}
 use Rattle.page.specs.Writing.{answered}
@@ -28,7 +27,7 @@ use Rattle.header.specs.Calls.{initialiseImage, initialisePlan}
 use Rattle.erase.specs.Erase.{erase, eraseImage}
 use Rattle.reading.specs.Reading.{Item, item}
 use Rattle.opening.specs.Opening.{headerVerdictOf, headerOf, keptItems, planFor, opening, openingImage}
-use Rattle.power_cut.specs.History.{Sector, VariableRequest, Write, a-variable, outcomeOf, imageOf, entriesOfWrite, entryUnits, newItem, withoutItem, History}
+use Rattle.power_cut.specs.History.{Sector, VariableRequest, Write, a-variable, outcomeOf, imageOf, entriesOfWrite, entryUnits, newItem, History}
 
 -- ---- the demand
 
