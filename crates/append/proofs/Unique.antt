@@ -1,8 +1,7 @@
 -- Any two results that a public call's contract allows are equal, and so are the images that they leave (01, 'What the contracts have to say').
 -- Assumes nothing.
 use denote.Ref.{now}
-use Rattle.page.proofs.Unique.{OneOutcome}
-use Rattle.sector.proofs.Unique.{unique}
+use Rattle.sector.proofs.Unique.{OneOutcome, unique}
 use Rattle.append.proofs.write_item.Kinds as write-item-kinds
 use Rattle.append.proofs.write_item.Reads as write-item
 use Rattle.append.proofs.write_namespace.Kinds as write-namespace-kinds

@@ -1,10 +1,8 @@
--- What a contract of this crate allows is one result.
+-- Any two results that a contract of this crate allows are equal, by what its callers learn.
 -- Assumes nothing.
-use mathlib.Core.Path.{_≡_, sym, _∙_}
-use mathlib.Core.List.{List}
-use Prim.Native.Nat.{ℕ}
-use Rattle.bound.specs.Bound.{hashBound}
+use Rattle.sector.proofs.Unique.{OneResult, unique}
+use Rattle.bound.proofs.hashed_item_bound.Kinds as hashed-item-bound-kinds
+use Rattle.bound.proofs.hashed_item_bound.Reads as hashed-item-bound
 
-pub hashed-item-bound-unique : (map : List ℕ) (entries : List (List ℕ)) (r s : ℕ)
-    → r ≡ hashBound map entries → s ≡ hashBound map entries → r ≡ s
-hashed-item-bound-unique map entries r s p q = p ∙ sym q
+pub hashed-item-bound-unique : OneResult 0 hashed-item-bound-kinds.ps hashed-item-bound-kinds.r hashed-item-bound.Learnt
+hashed-item-bound-unique κs args x y ex ey p q = unique p q

@@ -7,8 +7,7 @@ use borrow.Fn.Kinds.{PK, RK, Dens, Out, resT, endedOf}
 use contract.Lifetimes.{Lfts}
 use denote.Ref.{now}
 use denote.Triple.Clauses.{AtExit}
-use Rattle.page.proofs.Unique.{OneOutcome}
-use Rattle.sector.proofs.Unique.{OneResult, unique}
+use Rattle.sector.proofs.Unique.{OneResult, OneOutcome, unique}
 use Rattle.boundary.proofs.sums.nvs_crc32.Kinds as nvs-crc32-kinds
 use Rattle.boundary.proofs.sums.nvs_crc32.Reads as nvs-crc32
 use Rattle.boundary.proofs.sums.nvs_item_crc.Kinds as nvs-item-crc-kinds

@@ -1,15 +1,9 @@
--- What a contract of this crate allows is one result.
+-- Any two results that a public call's contract allows are equal, and so are the images that they leave (01, 'What the contracts have to say').
 -- Assumes nothing.
-use mathlib.Core.Path.{_≡_, sym, _∙_}
-use mathlib.Core.List.{List}
-use Prim.Native.Nat.{ℕ}
-use Rattle.page.specs.declared.Outcome.{Outcome}
-use Rattle.page.specs.declared.ThinPage.{ThinPage}
-use Rattle.copy.specs.Copy.{copyIn, copyInImage}
+use denote.Ref.{now}
+use Rattle.sector.proofs.Unique.{OneOutcome, unique}
+use Rattle.copy.proofs.copy_item_from.Kinds as copy-item-from-kinds
+use Rattle.copy.proofs.copy_item_from.Reads as copy-item-from
 
--- answer with record, and image
-pub copy-item-from-unique : (image source : List ℕ) (page : ThinPage) (i n : ℕ) (r s : Outcome) (a b : List ℕ)
-    → (r ≡ copyIn image page source i n) × (a ≡ copyInImage image page source i n)
-    → (s ≡ copyIn image page source i n) × (b ≡ copyInImage image page source i n)
-    → (r ≡ s) × (a ≡ b)
-copy-item-from-unique image source page i n r s a b p q = (p .0 ∙ sym (q .0), p .1 ∙ sym (q .1))
+pub copy-item-from-unique : OneOutcome 2 copy-item-from-kinds.ps copy-item-from-kinds.r (λ κs ex. now (ex .0)) copy-item-from.Learnt
+copy-item-from-unique κs args x y ex ey p q = (unique (p .0) (q .0), unique (p .1) (q .1))

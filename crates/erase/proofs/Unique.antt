@@ -1,15 +1,9 @@
--- What a contract of this crate allows is one result.
+-- Any two results that a public call's contract allows are equal, and so are the images that they leave (01, 'What the contracts have to say').
 -- Assumes nothing.
-use mathlib.Core.Path.{_≡_, sym, _∙_}
-use mathlib.Core.List.{List}
-use Prim.Native.Nat.{ℕ}
-use Rattle.page.specs.declared.Outcome.{Outcome}
-use Rattle.page.specs.declared.ThinPage.{ThinPage}
-use Rattle.erase.specs.Erase.{erase, eraseImage}
+use denote.Ref.{now}
+use Rattle.sector.proofs.Unique.{OneOutcome, unique}
+use Rattle.erase.proofs.erase_item.Kinds as erase-item-kinds
+use Rattle.erase.proofs.erase_item.Reads as erase-item
 
--- answer with record, and image
-pub erase-item-unique : (image : List ℕ) (page : ThinPage) (index span : ℕ) (r s : Outcome) (a b : List ℕ)
-    → (r ≡ erase image page index span) × (a ≡ eraseImage image page index span)
-    → (s ≡ erase image page index span) × (b ≡ eraseImage image page index span)
-    → (r ≡ s) × (a ≡ b)
-erase-item-unique image page index span r s a b p q = (p .0 ∙ sym (q .0), p .1 ∙ sym (q .1))
+pub erase-item-unique : OneOutcome 1 erase-item-kinds.ps erase-item-kinds.r (λ κs ex. now (ex .0)) erase-item.Learnt
+erase-item-unique κs args x y ex ey p q = (unique (p .0) (q .0), unique (p .1) (q .1))

@@ -1,13 +1,13 @@
--- What a contract of this crate allows is one result.
+-- Any two results that a contract of this crate allows are equal, by what its callers learn.
 -- Assumes nothing.
-use mathlib.Core.Path.{_≡_, sym, _∙_}
-use mathlib.Core.List.{List}
-use Prim.Native.Nat.{ℕ}
-use Rattle.load.specs.declared.Loaded.{Loaded}
-use Rattle.load.specs.Load.{rawEntry, loadItem}
+use Rattle.sector.proofs.Unique.{OneResult, unique}
+use Rattle.load.proofs.read_raw_entry.Kinds as read-raw-entry-kinds
+use Rattle.load.proofs.read_raw_entry.Reads as read-raw-entry
+use Rattle.load.proofs.load_item.Kinds as load-item-kinds
+use Rattle.load.proofs.load_item.Reads as load-item
 
-pub read-raw-entry-unique : (image : List ℕ) (i : ℕ) (r s : Loaded) → r ≡ rawEntry image i → s ≡ rawEntry image i → r ≡ s
-read-raw-entry-unique image i r s p q = p ∙ sym q
+pub read-raw-entry-unique : OneResult 1 read-raw-entry-kinds.ps read-raw-entry-kinds.r read-raw-entry.Learnt
+read-raw-entry-unique κs args x y ex ey p q = unique p q
 
-pub load-item-unique : (image : List ℕ) (i : ℕ) (r s : Loaded) → r ≡ loadItem image i → s ≡ loadItem image i → r ≡ s
-load-item-unique image i r s p q = p ∙ sym q
+pub load-item-unique : OneResult 1 load-item-kinds.ps load-item-kinds.r load-item.Learnt
+load-item-unique κs args x y ex ey p q = unique p q

@@ -1,20 +1,8 @@
--- What a contract of this crate allows is one result; and what that says of a writing call, for the crates above.
+-- Any two results that a contract of this crate allows are equal, by what its callers learn.
 -- Assumes nothing.
-use mathlib.Core.Path.{_≡_, sym, _∙_}
-use mathlib.Core.Bool.{Bool}
-use mathlib.Core.List.{List}
-use Prim.Native.Nat.{ℕ}
-use borrow.Fn.Kinds.{PK, RK, Dens, Out, resT, endedOf}
-use contract.Lifetimes.{Lfts}
-use denote.Triple.Clauses.{AtExit}
-use Rattle.page.specs.declared.ThinPage.{ThinPage}
-use Rattle.page.specs.Record.{fitToUse}
+use Rattle.sector.proofs.Unique.{OneResult, unique}
+use Rattle.page.proofs.fit.fit_to_use.Kinds as fit-to-use-kinds
+use Rattle.page.proofs.fit.fit_to_use.Reads as fit-to-use
 
-pub fit-to-use-unique : (page : ThinPage) (r s : Bool) → r ≡ fitToUse page → s ≡ fitToUse page → r ≡ s
-fit-to-use-unique page r s p q = p ∙ sym q
-
--- of the same arguments, two outcomes that a writing call's contract allows are equal, and the images that they leave
-abbrev pub OneOutcome : (n : ℕ) (ps : List (PK n)) (r : RK n) → ((κs : Lfts n) → AtExit (endedOf n ps r) κs → List ℕ) → Out n ps r → Type 0
-OneOutcome n ps r image contract =
-    (κs : Lfts n) (args : Dens κs ps) (x y : resT r κs .Denot) (ex ey : AtExit (endedOf n ps r) κs)
-    → contract κs args x ex → contract κs args y ey → (x ≡ y) × (image κs ex ≡ image κs ey)
+pub fit-to-use-unique : OneResult 0 fit-to-use-kinds.ps fit-to-use-kinds.r fit-to-use.Learnt
+fit-to-use-unique κs args x y ex ey p q = unique p q

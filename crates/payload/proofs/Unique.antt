@@ -1,15 +1,9 @@
--- What a contract of this crate allows is one result.
+-- Any two results that a public call's contract allows are equal, and so are the outputs that they leave (01, 'What the contracts have to say').
 -- Assumes nothing.
-use mathlib.Core.Path.{_≡_, sym, _∙_}
-use mathlib.Core.List.{List}
-use Prim.Native.Nat.{ℕ}
-use lib.ListN.{length}
-use Rattle.payload.specs.declared.DataLoaded.{DataLoaded}
-use Rattle.payload.specs.Payload.{dataAnswer, dataOutput}
+use denote.Ref.{now}
+use Rattle.sector.proofs.Unique.{OneOutcome, unique}
+use Rattle.payload.proofs.load_referenced_data_into.Kinds as load-referenced-data-into-kinds
+use Rattle.payload.proofs.load_referenced_data_into.Reads as load-referenced-data-into
 
--- answer and output
-pub load-referenced-data-into-unique : (image output : List ℕ) (i : ℕ) (r s : DataLoaded) (a b : List ℕ)
-    → (r ≡ dataAnswer image i (length output)) × (a ≡ dataOutput image i output)
-    → (s ≡ dataAnswer image i (length output)) × (b ≡ dataOutput image i output)
-    → (r ≡ s) × (a ≡ b)
-load-referenced-data-into-unique image output i r s a b p q = (p .0 ∙ sym (q .0), p .1 ∙ sym (q .1))
+pub load-referenced-data-into-unique : OneOutcome 2 load-referenced-data-into-kinds.ps load-referenced-data-into-kinds.r (λ κs ex. now (ex .1 .1 .0)) load-referenced-data-into.Learnt
+load-referenced-data-into-unique κs args x y ex ey p q = (unique (p .0) (q .0), unique (p .1) (q .1))

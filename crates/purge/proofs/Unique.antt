@@ -1,23 +1,14 @@
--- What a contract of this crate allows is one result.
+-- Any two results that a public call's contract allows are equal, and so are the images that they leave (01, 'What the contracts have to say').
 -- Assumes nothing.
-use mathlib.Core.Path.{_≡_, sym, _∙_}
-use mathlib.Core.List.{List}
-use Prim.Native.Nat.{ℕ}
-use Rattle.page.specs.declared.Outcome.{Outcome}
-use Rattle.page.specs.declared.ThinPage.{ThinPage}
-use Rattle.sector.specs.declared.Answer.{Answer}
-use Rattle.purge.specs.Purge.{purge, purgeImage, purgeNamespace, purgeNamespaceImage}
+use denote.Ref.{now}
+use Rattle.sector.proofs.Unique.{OneOutcome, unique}
+use Rattle.purge.proofs.purge_entries.Kinds as purge-entries-kinds
+use Rattle.purge.proofs.purge_entries.Reads as purge-entries
+use Rattle.purge.proofs.purge_erased_for_namespace.Kinds as purge-erased-for-namespace-kinds
+use Rattle.purge.proofs.purge_erased_for_namespace.Reads as purge-erased-for-namespace
 
--- answer, and image
-pub purge-entries-unique : (image : List ℕ) (index span : ℕ) (r s : Answer) (a b : List ℕ)
-    → (r ≡ purge image) × (a ≡ purgeImage image index span)
-    → (s ≡ purge image) × (b ≡ purgeImage image index span)
-    → (r ≡ s) × (a ≡ b)
-purge-entries-unique image index span r s a b p q = (p .0 ∙ sym (q .0), p .1 ∙ sym (q .1))
+pub purge-entries-unique : OneOutcome 1 purge-entries-kinds.ps purge-entries-kinds.r (λ κs ex. now (ex .0)) purge-entries.Learnt
+purge-entries-unique κs args x y ex ey p q = (unique (p .0) (q .0), unique (p .1) (q .1))
 
--- answer with record, and image
-pub purge-erased-for-namespace-unique : (image : List ℕ) (page : ThinPage) (namespace : ℕ) (r s : Outcome) (a b : List ℕ)
-    → (r ≡ purgeNamespace image page namespace) × (a ≡ purgeNamespaceImage image page namespace)
-    → (s ≡ purgeNamespace image page namespace) × (b ≡ purgeNamespaceImage image page namespace)
-    → (r ≡ s) × (a ≡ b)
-purge-erased-for-namespace-unique image page namespace r s a b p q = (p .0 ∙ sym (q .0), p .1 ∙ sym (q .1))
+pub purge-erased-for-namespace-unique : OneOutcome 1 purge-erased-for-namespace-kinds.ps purge-erased-for-namespace-kinds.r (λ κs ex. now (ex .0)) purge-erased-for-namespace.Learnt
+purge-erased-for-namespace-unique κs args x y ex ey p q = (unique (p .0) (q .0), unique (p .1) (q .1))

@@ -1,13 +1,9 @@
 -- Any two results that a public call's contract allows are equal (01, 'What the contracts have to say').
 --
--- In order: what that says of a contract; the public functions of this crate, by what their callers learn; the codings that tell answers, states and types apart.
+-- In order: the public functions of this crate, by what their callers learn; the codings that tell answers, states and types apart.
 -- Assumes nothing.
 use mathlib.Core.Path.{_≡_, sym, ap, ap₂, _∙_}
-use mathlib.Core.List.{List}
-use Prim.Native.Nat.{ℕ}
-use borrow.Fn.Kinds.{PK, RK, Dens, Out, resT, endedOf}
-use contract.Lifetimes.{Lfts}
-use denote.Triple.Clauses.{AtExit}
+pub use Rattle.crc.proofs.Unique.{OneResult, OneOutcome, unique}
 use Rattle.sector.specs.declared.Answer.{Answer}
 use Rattle.sector.specs.declared.EntryMapState.{EntryMapState}
 use Rattle.sector.specs.declared.ItemType.{ItemType}
@@ -22,18 +18,6 @@ use Rattle.sector.proofs.bytes.number_at.Kinds as number-at-kinds
 use Rattle.sector.proofs.bytes.number_at.Reads as number-at
 use Rattle.sector.proofs.answers.number_of.Kinds as number-of-kinds
 use Rattle.sector.proofs.answers.number_of.Reads as number-of
-
--- ---- what it says
-
--- of the same arguments, two results that a contract allows are equal
-abbrev pub OneResult : (n : ℕ) (ps : List (PK n)) (r : RK n) → Out n ps r → Type 0
-OneResult n ps r contract =
-    (κs : Lfts n) (args : Dens κs ps) (x y : resT r κs .Denot) (ex ey : AtExit (endedOf n ps r) κs)
-    → contract κs args x ex → contract κs args y ey → x ≡ y
-
--- a contract that is an equation allows one result
-pub unique : {A : Type 0} {spec x y : A} → x ≡ spec → y ≡ spec → x ≡ y
-unique p q = p ∙ sym q
 
 -- ---- the public functions
 
