@@ -4,13 +4,13 @@ use mathlib.Core.Path.{_≡_, refl, sym, ap, _∙_, subst}
 use mathlib.Core.Bool.{false, cond}
 use mathlib.Core.List.{List, [], _∷_, _++_, List·Memᴰ, List·Memᴰ·not-nil}
 use mathlib.Core.Logic.{_⊎_, inl, inr}
-use Prim.Native.Nat.{ℕ, zero, suc, _+_, _≤_, _<_}
+use Prim.Native.Nat.{ℕ, suc, _+_, _≤_, _<_}
 use native.Mathlib.Omega.{arith}
 use lib.Dec.{leb}
-use lib.ListN.{length, take, replicate}
+use lib.ListN.{length, replicate}
 use borrow.Author.Tests.{eq-eqb}
 use Rattle.flash.specs.Flash.{run}
-use Rattle.flash.proofs.Laws.{OnlyClears, clears-nil, clears-cons, clears-run, all-ones-replicate, Outside, outside-within, outside-append, outside-take, take-drop-run}
+use Rattle.flash.proofs.Laws.{all-ones-replicate, Outside, outside-within, outside-append, outside-take, take-drop-run}
 use Rattle.page.specs.declared.ThinPage.{ThinPage}
 use Rattle.page.specs.Record.{nextFree, uninitialized, withErased}
 use Rattle.page.specs.Writing.{answered, itemPlan}
@@ -23,8 +23,10 @@ use Rattle.reading.specs.Reading.{Item, item}
 use Rattle.opening.specs.Opening.{headerVerdictOf, keptItems, opening, openingImage}
 use Rattle.opening.specs.declared.HeaderVerdict.the-variants.{Blank}
 use Rattle.reopening.proofs.KeptItem.{member-split}
-use Rattle.power_cut.specs.History.{Write, outcomeOf, imageOf, entriesOfWrite, entryUnits, newItem, withoutItem, History, opened, written, erased}
-use Rattle.power_cut.specs.PowerCut.{FindsWhatWasPut, Begins, AbsentOrWhole, SetsNoBit, AltersNothingElse, ErasesMarksAlone}
+use Rattle.promises.specs.Promises.{SetsNoBit, putting, erasing}
+use Rattle.promises.proofs.Promises.{only-clears-bits}
+use Rattle.power_cut.specs.History.{Write, asked, outcomeOf, imageOf, entriesOfWrite, entryUnits, newItem, withoutItem, History, opened, written, erased}
+use Rattle.power_cut.specs.PowerCut.{FindsWhatWasPut, Begins, AbsentOrWhole, AltersNoOtherEntry, ErasesMarksAlone}
 use Rattle.power_cut.proofs.Standing.{Standing, standing-size, standing-kept, standing-plan}
 use Rattle.power_cut.proofs.Begun.{within-full}
 use Rattle.power_cut.proofs.AtHand.{standing-page}
@@ -99,13 +101,13 @@ known (erased index entries h m d) = erased-known (known h) index entries m d
 
 -- ---- the demand
 
-held-opening : {image : List ℕ} {page : ThinPage} {items : List Item} → Held image page items → opening image ≡ answered Done page
+pub held-opening : {image : List ℕ} {page : ThinPage} {items : List Item} → Held image page items → opening image ≡ answered Done page
 unfolding opening
 held-opening {image} h =
     rw (eq-eqb (length image) 4096 (standing-size (h .standing)), opens-of image (h .opens))
     (ap (answered Done) (standing-page (h .standing) ∙ sym (h .page-is)))
 
-held-image : {image : List ℕ} {page : ThinPage} {items : List Item} → Held image page items → openingImage image ≡ image
+pub held-image : {image : List ℕ} {page : ThinPage} {items : List Item} → Held image page items → openingImage image ≡ image
 unfolding openingImage run
 held-image {image} h = rw (eq-eqb (length image) 4096 (standing-size (h .standing)), opens-of image (h .opens), standing-plan (h .standing))
 
@@ -149,11 +151,6 @@ absent-or-whole image page items h write n b = by-known (known h) b
 
 -- ---- bits and other entries
 
-clears-bits : {before after : List ℕ} → OnlyClears before after → SetsNoBit before after
-clears-bits clears-nil i = refl
-clears-bits (clears-cons e c) zero = e
-clears-bits (clears-cons e c) (suc i) = clears-bits c i
-
 module _ {image : List ℕ} {items : List Item} (p : Standing image items) {write : Write} {n : ℕ} (s : Started p write n) where
   abbrev start : ℕ
   start = length (p .front)
@@ -174,9 +171,6 @@ module _ {image : List ℕ} {items : List Item} (p : Standing image items) {writ
       by-side (inl h) = outside-within (entryAddress i) (entryAddress i + 32) (inr (omega arith)) (s .lays .within)
       by-side (inr h) = outside-within (entryAddress i) (entryAddress i + 32) (inl (omega arith)) (s .lays .within)
 
-  write-bits : SetsNoBit image (imageOf write image (at-hand p) n)
-  write-bits = rw (s .image-is) (clears-bits (clears-run (take n (itemPlan (entryUnits write (at-hand p)) start span (p .map))) image))
-
   write-entries : (i : ℕ) → (i < nextFree (at-hand p)) ⊎ (nextFree (at-hand p) + length (entriesOfWrite write) ≤ i)
       → entryAt (imageOf write image (at-hand p) n) i ≡ entryAt image i
   write-entries i away =
@@ -192,13 +186,13 @@ Unaltered write n image page =
     SetsNoBit image (imageOf write image page n)
     × ((i : ℕ) → i < 126 → (i < nextFree page) ⊎ (nextFree page + length (entriesOfWrite write) ≤ i) → entryAt (imageOf write image page n) i ≡ entryAt image i)
 
-pub alters-nothing-else : AltersNothingElse
-alters-nothing-else image page items h write n b = by-known (known h) b
+pub alters-no-other-entry : AltersNoOtherEntry
+alters-no-other-entry image page items h write n b = by-known (known h) b
   where
     by-known : Known image page items → Begins write image page n → Unaltered write n image page
     by-known (held h) b =
         subst (λ (page : ThinPage). Begins write image page n → Unaltered write n image page) (sym (h .page-is))
-        (λ b. let s = started (h .standing) write n b in (write-bits (h .standing) s, λ i l away. write-entries (h .standing) s i away))
+        (λ b. let s = started (h .standing) write n b in (only-clears-bits (putting (asked write)) image (at-hand (h .standing)) n, λ i l away. write-entries (h .standing) s i away))
         b
     by-known (blank i p e) b = absurd (blank-refuses write image n (subst (λ (page : ThinPage). Begins write image page n) p b))
 
@@ -215,11 +209,11 @@ marks-alone {image} p index entries m d =
     let n = length entries in
     let plan = erasePlan (at-hand p) index n in
     let one = some p index entries (split .0) (split .1) (split .2) in
-    let inside = fits p index entries (split .0) (split .1) (split .2) in
-    rw (erase-image p index entries d) (
-      clears-bits (clears-run plan image),
+    let inside = fits p index entries (split .0) (split .1) (split .2) in (
+      only-clears-bits (erasing index n) image (at-hand p) 0,
       λ i l.
-          take-drop-run (entryAddress i) 32 image
+          ap (λ (after : List ℕ). entryAt after i) (erase-image p index entries d)
+          ∙ take-drop-run (entryAddress i) 32 image
           (outside-within (entryAddress i) (entryAddress i + 32) (inl (omega arith)) (within-mapUnits index n _ one (omega (arith, inside, p .sum)))),
     )
 

@@ -26,14 +26,14 @@ use Rattle.reading.specs.declared.Verdict.{Verdict}
 use Rattle.reading.specs.declared.Verdict.the-variants.{NotAnItem, RefusedEntry, RefusedItem, Kept}
 use Rattle.reading.specs.Reading.{verdictAt, stepsOver, Item, item, withKept, keptFrom}
 use Rattle.reading.proofs.Verdicts.{States, Entries}
-use Rattle.opening.specs.Opening.{headerOf, listedItems}
-use Rattle.promises.proofs.FitRecords.{known-fits, zero-places, hash-short}
+use Rattle.opening.specs.Opening.{isOpenState, headerOf, listedItems}
+use Rattle.promises.proofs.FitRecords.{known-state, known-fits, zero-places, hash-short}
 use Rattle.reopening.proofs.OpenedFront.{count-empties}
 use Rattle.reopening.proofs.KeptItem.{Indices, indices-nil, indices-cons, indices-keptFrom}
 use Rattle.power_cut.specs.PowerCut.{RecordIsFit}
 use Rattle.power_cut.proofs.Standing.{Standing}
 use Rattle.power_cut.proofs.AtHand.{pageOf}
-use Rattle.power_cut.proofs.Headers.{open-initialized, header-opens}
+use Rattle.power_cut.proofs.Headers.{header-opens}
 use Rattle.power_cut.proofs.Started.{counted}
 use Rattle.power_cut.proofs.Held.{Held, Known, held, blank}
 use Rattle.power_cut.proofs.Demand.{known}
@@ -118,7 +118,7 @@ held-fit {items = items} h =
       written-fits = omega (arith, written p);
       listed-fit = rw (take-append-seam places blanks) (places-fit p);
       behind-zero = rw (drop-append-seam places blanks) (zero-places (126 - length places));
-      blank-fits = known-fits at-hand (open-initialized (stateOfWord (stateWord (p .header))) (opens .state));
+      blank-fits = known-fits at-hand (known-state isOpenState refl (stateOfWord (stateWord (p .header))) (opens .state));
     }))
 
 -- ---- every history

@@ -5,7 +5,7 @@
 use mathlib.Core.Path.{_≡_, refl, sym, ap, _∙_, subst}
 use mathlib.Core.Bool.{Bool, true, false, _&&_, not, cond}
 use mathlib.Core.List.{List, [], _∷_, _++_}
-use Prim.Native.Nat.{ℕ, zero, suc, _+_, _≤_}
+use Prim.Native.Nat.{ℕ, zero, suc, _≤_}
 use native.Mathlib.Omega.{arith}
 use lib.Dec.{eqb}
 use lib.ListN.{length, take, drop, getD, take-append-drop}
@@ -16,24 +16,16 @@ use Rattle.flash.specs.Flash.{units, run, program, allOnes}
 use Rattle.flash.proofs.Laws.{Bytes, bytes-nil, bytes-cons}
 use Rattle.page.specs.Record.{isUninitialized}
 use Rattle.page.specs.Writing.{fullUnits}
-use Rattle.sector.specs.declared.PageState.{PageState}
 use Rattle.sector.specs.declared.PageState.the-variants.{Uninitialized, Active, Full, Freeing, Corrupt, Invalid}
 use Rattle.sector.specs.Header.{stateOfWord, headerCrc, stateBytes}
 use Rattle.sector.specs.Item.{crcStart}
 use Rattle.sector.specs.Layout.{number, stateWord, versionOf, storedHeaderCrc}
 use Rattle.opening.specs.Opening.{isOpenState, headerVerdictOf}
 use Rattle.opening.specs.declared.HeaderVerdict.the-variants.{Blank, Opens, WrongPageState, WrongVersion, WrongHeaderCrc}
+use Rattle.promises.proofs.FitRecords.{known-state}
 use Rattle.power_cut.proofs.AtHand.{field-front}
 
 -- ---- what decides
-
-pub open-initialized : (s : PageState) → isOpenState s ≡ true → isUninitialized s ≡ false
-open-initialized Uninitialized e = sym e
-open-initialized Active e = refl
-open-initialized Full e = refl
-open-initialized Freeing e = refl
-open-initialized Corrupt e = refl
-open-initialized Invalid e = refl
 
 -- state, version and CRC of a header
 pub record HeaderOpens (header : List ℕ) : Type 0 where
@@ -58,7 +50,7 @@ opens-facts image e =
 
 pub opens-of : (image : List ℕ) → HeaderOpens image → headerVerdictOf image ≡ Opens
 unfolding headerVerdictOf
-opens-of image o = rw (open-initialized (stateOfWord (stateWord image)) (o .state), o .state, o .version, o .crc)
+opens-of image o = rw (known-state isOpenState refl (stateOfWord (stateWord image)) (o .state), o .state, o .version, o .crc)
 
 -- the header alone decides
 module _ (header rest : List ℕ) (size : length header ≡ 32) where

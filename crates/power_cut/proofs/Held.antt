@@ -5,7 +5,7 @@
 use mathlib.Core.Path.{_≡_, refl, sym, ap, _∙_, subst}
 use mathlib.Core.Bool.{Bool, true, false, _&&_, not, cond}
 use mathlib.Core.List.{List, [], _++_}
-use Prim.Native.Nat.{ℕ, _+_, _-_, _*_}
+use Prim.Native.Nat.{ℕ, _*_}
 use native.Mathlib.Omega.{arith}
 use lib.Dec.{eqb}
 use lib.ListN.{length, take, drop, replicate}
@@ -96,7 +96,7 @@ pub blank-kept : keptItems (replicate 4096 0xFF) ≡ []
 unfolding keptItems
 blank-kept = keptFrom-empties 126 0 (entriesOf (replicate 4096 0xFF))
 
-blank-image : (image : List ℕ) → length image ≡ 4096 → allOnes image ≡ true → image ≡ replicate 4096 0xFF
+pub blank-image : (image : List ℕ) → length image ≡ 4096 → allOnes image ≡ true → image ≡ replicate 4096 0xFF
 blank-image image size e = replicate-all-ones image e ∙ ap (λ (n : ℕ). replicate {A = ℕ} n 0xFF) size
 
 blank-verdict : (image : List ℕ) → headerVerdictOf image ≡ Blank → allOnes image ≡ true

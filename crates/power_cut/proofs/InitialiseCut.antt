@@ -3,20 +3,22 @@
 -- The version comes with the third unit and the CRC with the eighth; those between are 0xFF. So from the third unit on the page is the finished
 -- one exactly where its CRC is 0xFFFFFFFF. Assumes nothing.
 use mathlib.Core.Path.{_≡_, refl, sym, ap, _∙_}
-use mathlib.Core.Bool.{Bool, true, false, cond}
-use mathlib.Core.List.{List, [], _++_, append-nil}
+use mathlib.Core.Bool.{Bool, true, false, not, cond}
+use mathlib.Core.List.{List, [], _∷_, _++_, append-nil}
 use mathlib.Core.Logic.{_⊎_, inl, inr}
-use Prim.Native.Nat.{ℕ, zero, suc, _+_, _-_, _*_, _≤_}
+use Prim.Native.Nat.{ℕ, zero, suc, _-_, _*_, _≤_}
 use native.Mathlib.Omega.{arith}
 use lib.Dec.{eqb}
 use lib.ListN.{length, take, replicate, length-take}
 use lib.Seq.{take-all, take-length}
-use borrow.Author.Tests.{eqb-true}
+use borrow.Author.Tests.{eqb-true, not-false}
 use Rattle.crc.specs.Crc.{crc32}
 use Rattle.flash.specs.Flash.{Unit4, units, run, program, allOnes}
 use Rattle.flash.proofs.Laws.{Bytes, bytes-append, bytes-ones, bytes-take, length-units-whole, program-erased, run-take-units}
-use Rattle.page.specs.Record.{fitToUse, uninitialized}
+use Rattle.page.specs.declared.ThinPage.{ThinPage}
+use Rattle.page.specs.Record.{isUninitialized, fitToUse, uninitialized}
 use Rattle.page.specs.Writing.{answered, imageAfter}
+use Rattle.page.proofs.Checks.{accepted-usable, accepted-head}
 use Rattle.sector.specs.declared.Answer.the-variants.{Done, CorruptedData}
 use Rattle.sector.specs.Answers.{accepted}
 use Rattle.sector.specs.Header.{stateOfWord, headerCrc, headerBody, headerBytes}
@@ -27,6 +29,7 @@ use Rattle.header.specs.Calls.{initialiseChecks, initialisePlan, initialiseImag
 use Rattle.opening.specs.Opening.{headerVerdictOf, opening}
 use Rattle.power_cut.specs.PowerCut.{InitialiseCut}
 use Rattle.power_cut.proofs.Laid.{bytes-littleEndian}
+use Rattle.power_cut.proofs.Held.{blank-image}
 use Rattle.power_cut.proofs.Demand.{blank-opening}
 
 abbrev blank : List ℕ
@@ -36,11 +39,11 @@ accepts : accepted (initialiseChecks blank uninitialized) ≡ true
 unfolding fitToUse allOnes countIn
 accepts = refl
 
-header-long : (sequence : ℕ) → length (headerBytes sequence) ≡ 32
+pub header-long : (sequence : ℕ) → length (headerBytes sequence) ≡ 32
 unfolding headerBytes
 header-long sequence = refl
 
-header-bytes : (sequence : ℕ) → Bytes (headerBytes sequence)
+pub header-bytes : (sequence : ℕ) → Bytes (headerBytes sequence)
 unfolding headerBytes
 header-bytes sequence =
     bytes-append (bytes-littleEndian 4 0xFFFFFFFE)
@@ -53,7 +56,7 @@ program-blank {bytes} b h =
     ∙ program-erased 4096 [] [] b h
     ∙ ap (λ (rest : List ℕ). bytes ++ rest) (append-nil (replicate (4096 - length bytes) 0xFF))
 
-stopped : (sequence n : ℕ) → initialiseImage blank uninitialized sequence n
+pub stopped : (sequence n : ℕ) → initialiseImage blank uninitialized sequence n
     ≡ take (4 * n) (headerBytes sequence) ++ replicate (4096 - length (take (4 * n) (headerBytes sequence))) 0xFF
 unfolding initialiseImage initialisePlan
 stopped sequence n =
@@ -68,7 +71,7 @@ Cut sequence n =
     ⊎ ((opening (initialiseImage blank uninitialized sequence n) ≡ answered CorruptedData uninitialized)
     ⊎ (initialiseImage blank uninitialized sequence n ≡ initialiseImage blank uninitialized sequence (length (initialisePlan sequence))))
 
-plan-long : (sequence : ℕ) → length (initialisePlan sequence) ≡ 8
+pub plan-long : (sequence : ℕ) → length (initialisePlan sequence) ≡ 8
 unfolding initialisePlan
 plan-long sequence = length-units-whole 0 8 (headerBytes sequence) (header-long sequence)
 
@@ -117,7 +120,7 @@ module _ (sequence : ℕ) where
       by-crc true e = inr (inr (finished e ∙ ap (initialiseImage blank uninitialized sequence) (sym (plan-long sequence))))
 
   -- all units
-  whole : (n : ℕ) → length (initialisePlan sequence) ≤ n
+  pub whole : (n : ℕ) → length (initialisePlan sequence) ≤ n
       → initialiseImage blank uninitialized sequence n ≡ initialiseImage blank uninitialized sequence (length (initialisePlan sequence))
   unfolding initialiseImage
   whole n h =
@@ -131,15 +134,33 @@ move sequence n m e (inr (inl c)) = inr (inl (ap opening e ∙ c))
 move sequence n m e (inr (inr c)) = inr (inr (e ∙ c))
 
 -- the units between the version and the CRC are 0xFF
-pub initialise-cut : InitialiseCut
+blank-cut : (sequence n : ℕ) → Cut sequence n
 unfolding headerBytes
-initialise-cut sequence zero h = inl (cut-0 sequence)
-initialise-cut sequence (suc zero) h = inr (inl (cut-1 sequence))
-initialise-cut sequence (suc (suc zero)) h = inr (inl (cut-2 sequence))
-initialise-cut sequence (suc (suc (suc zero))) h = cut-3 sequence
-initialise-cut sequence (suc (suc (suc (suc zero)))) h = move sequence 4 3 (same-as-3 sequence 4 refl) (cut-3 sequence)
-initialise-cut sequence (suc (suc (suc (suc (suc zero))))) h = move sequence 5 3 (same-as-3 sequence 5 refl) (cut-3 sequence)
-initialise-cut sequence (suc (suc (suc (suc (suc (suc zero)))))) h = move sequence 6 3 (same-as-3 sequence 6 refl) (cut-3 sequence)
-initialise-cut sequence (suc (suc (suc (suc (suc (suc (suc zero))))))) h = move sequence 7 3 (same-as-3 sequence 7 refl) (cut-3 sequence)
-initialise-cut sequence (suc (suc (suc (suc (suc (suc (suc (suc n)))))))) h =
+blank-cut sequence zero = inl (cut-0 sequence)
+blank-cut sequence (suc zero) = inr (inl (cut-1 sequence))
+blank-cut sequence (suc (suc zero)) = inr (inl (cut-2 sequence))
+blank-cut sequence (suc (suc (suc zero))) = cut-3 sequence
+blank-cut sequence (suc (suc (suc (suc zero)))) = move sequence 4 3 (same-as-3 sequence 4 refl) (cut-3 sequence)
+blank-cut sequence (suc (suc (suc (suc (suc zero))))) = move sequence 5 3 (same-as-3 sequence 5 refl) (cut-3 sequence)
+blank-cut sequence (suc (suc (suc (suc (suc (suc zero)))))) = move sequence 6 3 (same-as-3 sequence 6 refl) (cut-3 sequence)
+blank-cut sequence (suc (suc (suc (suc (suc (suc (suc zero))))))) = move sequence 7 3 (same-as-3 sequence 7 refl) (cut-3 sequence)
+blank-cut sequence (suc (suc (suc (suc (suc (suc (suc (suc n)))))))) =
     inr (inr (whole sequence (suc (suc (suc (suc (suc (suc (suc (suc n)))))))) (omega (arith, plan-long sequence))))
+
+-- ---- any call that is not refused
+
+-- it finds the page erased
+pub erased-image : (image : List ℕ) (page : ThinPage) → accepted (initialiseChecks image page) ≡ true → image ≡ blank
+erased-image image page ok =
+    let usable = accepted-usable image page (not (isUninitialized (page .state))) ((not (allOnes image), CorruptedData) ∷ []) ok in
+    blank-image image (usable .whole) (not-false _ (accepted-head (not (allOnes image)) CorruptedData [] (usable .rest)))
+
+-- and leaves what it leaves of the Uninitialized record
+pub same-image : (image : List ℕ) (page : ThinPage) (sequence n : ℕ) → accepted (initialiseChecks image page) ≡ true
+    → initialiseImage image page sequence n ≡ initialiseImage blank uninitialized sequence n
+unfolding initialiseImage
+same-image image page sequence n ok =
+    rw (ok, accepts) (ap (run (take n (initialisePlan sequence))) (erased-image image page ok))
+
+pub initialise-cut : InitialiseCut
+initialise-cut image page sequence n h ok = rw (same-image image page sequence n ok, same-image image page sequence (length (initialisePlan sequence)) ok) (blank-cut sequence n)

@@ -17,4 +17,6 @@ pub mod Demand
 pub mod FitAtHand
 pub mod Loaded
 pub mod OpeningCut
+pub mod OpeningMarks
 pub mod InitialiseCut
+pub mod FinishedPage

@@ -45,7 +45,8 @@ use Rattle.power_cut.proofs.Standing.{Standing}
 use Rattle.power_cut.proofs.Begun.{Lays}
 use Rattle.power_cut.proofs.Laid.{lays-single, lays-variable, place, copied-span, entry-is, lays-copy}
 use Rattle.power_cut.proofs.AtHand.{pageOf}
-use Rattle.power_cut.proofs.Accepted.{refusing, begins-accepted, done-whole, done-page, done-plan}
+use Rattle.promises.proofs.Answers.{answersRefusal}
+use Rattle.power_cut.proofs.Accepted.{begins-accepted, done-whole, done-page, done-plan}
 
 -- ---- the page at hand
 
@@ -102,7 +103,7 @@ module _ {image : List ℕ} {items : List Item} (p : Standing image items) where
   room-in span h = omega (arith, next-is, p .sum)
 
   -- the image and the record, from the checks and the plan
-  module _ (checks : List Check) (refuses : every refusing checks ≡ true) (us : List Unit4) (span : ℕ) (new : ThinPage) (n : ℕ) where
+  module _ (checks : List Check) (refuses : every answersRefusal checks ≡ true) (us : List Unit4) (span : ℕ) (new : ThinPage) (n : ℕ) where
     abbrev planned : List Unit4
     planned = itemPlan us (nextFree page) span (p .map)
 

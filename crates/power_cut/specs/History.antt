@@ -7,20 +7,20 @@
 use mathlib.Core.Path.{_≡_}
 use mathlib.Core.Bool.{Bool, true, cond}
 use mathlib.Core.List.{List, [], _∷_, _++_, List·Memᴰ}
-use Prim.Native.Nat.{ℕ, _+_, _-_, _*_, _<_}
+use Prim.Native.Nat.{ℕ, _-_, _*_, _<_}
 use lib.Dec.{ltb, eqb}
 use lib.ListN.{length, replicate}
-use Rattle.flash.specs.Flash.{every, Unit4, units}
+use Rattle.flash.specs.Flash.{every, Unit4}
 use Rattle.page.specs.declared.Outcome.{Outcome}
 use Rattle.page.specs.declared.ThinPage.{ThinPage}
 use Rattle.page.specs.Record.{nextFree}
 use Rattle.sector.specs.declared.Answer.the-variants.{Done}
-use Rattle.sector.specs.Layout.{sectorSize, entrySize, entryAddress, chunks}
+use Rattle.sector.specs.Layout.{sectorSize, entrySize, chunks}
 use Rattle.append.specs.declared.Single.{Single}
 use Rattle.append.specs.declared.Variable.{Variable}
-use Rattle.append.specs.Append.{appendSingle, appendSingleImage, singleBytes, appendVariable, appendVariableImage, variableHeader, spanFor}
-use Rattle.copy.specs.Copy.{copyIn, copyInImage, copiedBytes}
+use Rattle.append.specs.Append.{singleBytes, variableHeader, spanFor}
 use Rattle.erase.specs.Erase.{erase, eraseImage}
+use Rattle.promises.specs.Promises.{NewItem, single, variable, copied, putting, outcomeOf as outcomeOfCall, imageOf as imageOfCall, entryUnits as entryUnitsOf}
 use Rattle.reading.specs.Reading.{Item, item}
 use Rattle.opening.specs.Opening.{opening, openingImage, keptItems}
 
@@ -67,17 +67,19 @@ pub data Write : Type 0 where
   a-variable : (request : Variable) (payload : List ℕ) → VariableRequest request payload → Write
   a-copy : (source : List ℕ) (index : ℕ) (entries : List (List ℕ)) → KeptIn source index entries → Write
 
+-- the request alone, as the calls take it
+abbrev pub asked : Write → NewItem
+asked (a-single request ok) = single request
+asked (a-variable request payload ok) = variable request payload
+asked (a-copy source index entries ok) = copied source index
+
 -- what the call hands back when told to stop after n units
 abbrev pub outcomeOf : Write → List ℕ → ThinPage → ℕ → Outcome
-outcomeOf (a-single request ok) image page n = appendSingle image page request n
-outcomeOf (a-variable request payload ok) image page n = appendVariable image page request payload n
-outcomeOf (a-copy source index entries ok) image page n = copyIn image page source index n
+outcomeOf write image page n = outcomeOfCall (putting (asked write)) image page n
 
 -- what it then leaves in the image
 abbrev pub imageOf : Write → List ℕ → ThinPage → ℕ → List ℕ
-imageOf (a-single request ok) image page n = appendSingleImage image page request n
-imageOf (a-variable request payload ok) image page n = appendVariableImage image page request payload n
-imageOf (a-copy source index entries ok) image page n = copyInImage image page source index n
+imageOf write image page n = imageOfCall (putting (asked write)) image page n
 
 -- a payload in its k entries, the last one filled up with 0xFF
 abbrev pub payloadEntries : ℕ → List ℕ → List (List ℕ)
@@ -92,10 +94,7 @@ entriesOfWrite (a-copy source index entries ok) = entries
 
 -- the units of the item's entries, before the first unit of the entry map
 abbrev pub entryUnits : Write → ThinPage → List Unit4
-entryUnits (a-single request ok) page = units (entryAddress (nextFree page)) (singleBytes request)
-entryUnits (a-variable request payload ok) page =
-    units (entryAddress (nextFree page)) (variableHeader request payload) ++ units (entryAddress (nextFree page + 1)) payload
-entryUnits (a-copy source index entries ok) page = units (entryAddress (nextFree page)) (copiedBytes source index)
+entryUnits write page = entryUnitsOf (asked write) page
 
 -- the new item: next free is its index
 abbrev pub newItem : Write → ThinPage → Item

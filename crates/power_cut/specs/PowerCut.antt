@@ -10,21 +10,22 @@ use mathlib.Core.Bool.{true, cond}
 use mathlib.Core.List.{List, [], _∷_, _++_, List·Memᴰ}
 use mathlib.Core.Logic.{_⊎_}
 use Prim.Native.Nat.{ℕ, _+_, _≤_, _<_}
-use lib.Bits.{bitAnd}
 use lib.Dec.{leb}
-use lib.ListN.{length, take, getD, replicate}
+use lib.ListN.{length, take, drop}
 use Rattle.flash.specs.Flash.{run}
 use Rattle.page.specs.declared.ThinPage.{ThinPage}
 use Rattle.page.specs.Record.{nextFree, fitToUse, uninitialized}
 use Rattle.page.specs.Writing.{answered}
 use Rattle.sector.specs.declared.Answer.the-variants.{Done, CorruptedData, Stopped}
-use Rattle.sector.specs.Layout.{sectorSize, entriesPerPage, entryAt}
+use Rattle.sector.specs.Answers.{accepted}
+use Rattle.sector.specs.Layout.{entriesPerPage, mapOffset, itemsOffset, entryAt}
 use Rattle.sector.specs.Types.{itemType, hasPayload, sanitized}
 use Rattle.load.specs.Load.{loadItem}
 use Rattle.payload.specs.Payload.{roundedUp, dataAnswer, dataOutput}
 use Rattle.append.specs.declared.Variable.{Variable}
-use Rattle.header.specs.Calls.{initialiseImage, initialisePlan}
+use Rattle.header.specs.Calls.{initialiseChecks, initialisePlan, initialise, initialiseImage}
 use Rattle.erase.specs.Erase.{erase, eraseImage}
+use Rattle.promises.specs.Promises.{SetsNoBit, AsInCode}
 use Rattle.reading.specs.Reading.{Item, item}
 use Rattle.opening.specs.Opening.{headerVerdictOf, headerOf, keptItems, planFor, opening, openingImage}
 use Rattle.power_cut.specs.History.{Sector, VariableRequest, Write, a-variable, outcomeOf, imageOf, entriesOfWrite, entryUnits, newItem, History}
@@ -73,13 +74,9 @@ AbsentOrWhole =
     × (keptItems (imageOf write image page n)
     ≡ cond (leb n (length (entryUnits write page))) items (items ++ (newItem write page ∷ [])))
 
--- no bit that was cleared is set
-abbrev pub SetsNoBit : List ℕ → List ℕ → Type 0
-SetsNoBit before after = (i : ℕ) → bitAnd (getD before i 0) (getD after i 0) ≡ getD after i 0
-
 -- no write of it, at any n, sets a cleared bit or alters another entry's bytes
-abbrev pub AltersNothingElse : Type 0
-AltersNothingElse =
+abbrev pub AltersNoOtherEntry : Type 0
+AltersNoOtherEntry =
     (image : List ℕ) (page : ThinPage) (items : List Item) → History image page items
     → (write : Write) (n : ℕ) → Begins write image page n
     → SetsNoBit image (imageOf write image page n)
@@ -97,21 +94,41 @@ ErasesMarksAlone =
 
 -- ---- initialise
 
--- the page that a stopped initialise leaves opens as Uninitialized, as CorruptedData, or is the finished page
+-- initialise begun and cut after any n: the page opens as Uninitialized, as CorruptedData, or is the finished page
 abbrev pub InitialiseCut : Type 0
 InitialiseCut =
-    (sequence n : ℕ) → sequence < 0x1_0000_0000
-    → (opening (initialiseImage (replicate sectorSize 0xFF) uninitialized sequence n) ≡ answered Done uninitialized)
-    ⊎ ((opening (initialiseImage (replicate sectorSize 0xFF) uninitialized sequence n) ≡ answered CorruptedData uninitialized)
-    ⊎ (initialiseImage (replicate sectorSize 0xFF) uninitialized sequence n
-    ≡ initialiseImage (replicate sectorSize 0xFF) uninitialized sequence (length (initialisePlan sequence))))
+    (image : List ℕ) (page : ThinPage) (sequence n : ℕ) → sequence < 0x1_0000_0000 → accepted (initialiseChecks image page) ≡ true
+    → (opening (initialiseImage image page sequence n) ≡ answered Done uninitialized)
+    ⊎ ((opening (initialiseImage image page sequence n) ≡ answered CorruptedData uninitialized)
+    ⊎ (initialiseImage image page sequence n ≡ initialiseImage image page sequence (length (initialisePlan sequence))))
+
+-- the finished page opens with the record that initialise hands back; it holds no item, and opening changes no byte: it is as opening leaves a page
+abbrev pub FinishedPageOpens : Type 0
+FinishedPageOpens =
+    (image : List ℕ) (page : ThinPage) (sequence n : ℕ) → sequence < 0x1_0000_0000 → AsInCode page → initialise image page sequence n .answer ≡ Done
+    → (opening (initialiseImage image page sequence n) ≡ initialise image page sequence n)
+    × (keptItems (initialiseImage image page sequence n) ≡ [])
+    × (openingImage (initialiseImage image page sequence n) ≡ initialiseImage image page sequence n)
 
 -- ---- opening
 
--- opening cut after any n of its map units, and opened again, gives the answer, record, image and items of one whole opening
+-- opening's units, and no more than n of them
+abbrev pub openingCut : List ℕ → ℕ → List ℕ
+openingCut image n = run (take n (planFor (headerVerdictOf image) image)) image
+
+-- header and entries stay, and no bit that was cleared is set
+abbrev pub MapAlone : List ℕ → List ℕ → Type 0
+MapAlone image after =
+    SetsNoBit image after × (take mapOffset after ≡ take mapOffset image) × (drop itemsOffset after ≡ drop itemsOffset image)
+
+-- opening programs the map alone, and only by clearing bits, at any n
+abbrev pub OpeningMarksAlone : Type 0
+OpeningMarksAlone = (image : List ℕ) → MapAlone image (openingImage image) × ((n : ℕ) → MapAlone image (openingCut image n))
+
+-- cut after any n, and opened again, it gives the answer, record, image and items of one whole opening
 abbrev pub OpeningCut : Type 0
 OpeningCut =
     (image : List ℕ) (n : ℕ) → Sector image
-    → (opening (run (take n (planFor (headerVerdictOf image) image)) image) ≡ opening image)
-    × (openingImage (run (take n (planFor (headerVerdictOf image) image)) image) ≡ openingImage image)
-    × (keptItems (run (take n (planFor (headerVerdictOf image) image)) image) ≡ keptItems image)
+    → (opening (openingCut image n) ≡ opening image)
+    × (openingImage (openingCut image n) ≡ openingImage image)
+    × (keptItems (openingCut image n) ≡ keptItems image)

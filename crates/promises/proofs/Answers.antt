@@ -30,7 +30,7 @@ use Rattle.promises.specs.Promises.{single, variable, copied, Call, init
 -- ---- checks
 
 -- no check answers Done or Stopped
-abbrev answersRefusal : Check → Bool
+abbrev pub answersRefusal : Check → Bool
 answersRefusal check = isRefusal (check .1)
 
 refused : (checks : List Check) → every answersRefusal checks ≡ true → accepted checks ≡ false → isRefusal (refusal checks) ≡ true
@@ -94,14 +94,15 @@ module _ (checks : List Check) (refuse : every answersRefusal checks ≡ true) (
           let wrong : refusal checks ≡ Stopped = (rw a at h) in
           absurd (false≢true (sym (ap isRefusal wrong) ∙ refused checks refuse a))
 
-  -- Done is answered where no check refuses, with the new record
-  pub done-only : outcome checks stopped page new .answer ≡ Done → (accepted checks ≡ true) × (outcome checks stopped page new .page ≡ new)
+  -- Done is answered where no check refuses and the whole plan is done, with the new record
+  pub done-only : outcome checks stopped page new .answer ≡ Done
+      → (accepted checks ≡ true) × (stopped ≡ false) × (outcome checks stopped page new .page ≡ new)
   done-only h = by-tests (accepted checks) stopped refl refl h
     where
       by-tests : (ok s : Bool) → accepted checks ≡ ok → stopped ≡ s → outcome checks stopped page new .answer ≡ Done
-          → (accepted checks ≡ true) × (outcome checks stopped page new .page ≡ new)
+          → (accepted checks ≡ true) × (stopped ≡ false) × (outcome checks stopped page new .page ≡ new)
       by-tests true true a e h = let wrong : Stopped ≡ Done = (rw (a, e) at h) in let z : _≡_ {A = ℕ} 0 1 = cc in absurd (omega arith)
-      by-tests true false a e h = (a, rw (a, e))
+      by-tests true false a e h = (a, e, rw (a, e))
       by-tests false s a e h =
           let wrong : refusal checks ≡ Done = (rw a at h) in
           absurd (false≢true (sym (ap isRefusal wrong) ∙ refused checks refuse a))

@@ -40,21 +40,14 @@ use Rattle.promises.proofs.Answers.{checks-refuse, or-false, accepted-b
 
 -- ---- states
 
-active-known : (s : PageState) → isActive s ≡ true → isUninitialized s ≡ false
-active-known Uninitialized h = absurd (false≢true h)
-active-known Active h = refl
-active-known Full h = refl
-active-known Freeing h = refl
-active-known Corrupt h = refl
-active-known Invalid h = refl
-
-erasable-known : (s : PageState) → isErasable s ≡ true → isUninitialized s ≡ false
-erasable-known Uninitialized h = absurd (false≢true h)
-erasable-known Active h = refl
-erasable-known Full h = refl
-erasable-known Freeing h = refl
-erasable-known Corrupt h = refl
-erasable-known Invalid h = refl
+-- a state that passes a test that Uninitialized does not
+pub known-state : (test : PageState → Bool) → test Uninitialized ≡ false → (s : PageState) → test s ≡ true → isUninitialized s ≡ false
+known-state test none Uninitialized h = absurd (false≢true (sym none ∙ h))
+known-state test none Active h = refl
+known-state test none Full h = refl
+known-state test none Freeing h = refl
+known-state test none Corrupt h = refl
+known-state test none Invalid h = refl
 
 -- a page that is not Uninitialized owes no blank record
 pub known-fits : (page : ThinPage) → isUninitialized (page .state) ≡ false → blankFits page ≡ true
@@ -141,7 +134,7 @@ module _ (page : ThinPage) (span namespace hash : ℕ) (code : AsInCode page) (f
 
   item-known : (last : Bool) → isUninitialized (cond last Full (page .state)) ≡ false
   item-known true = refl
-  item-known false = active-known (page .state) active
+  item-known false = known-state isActive refl (page .state) active
 
   item-fit : fitToUse (withItem page span namespace hash) ≡ true
   unfolding withItem
@@ -249,7 +242,7 @@ new-fit (erasing index span) image page code h =
     let missing = not (allWritten (page .map) index span) in
     let range = accepted-head wrong CorruptedData ((missing, NotWritten) ∷ []) (u .rest) in
     let marks = accepted-head missing NotWritten [] (accepted-tail wrong CorruptedData ((missing, NotWritten) ∷ []) (u .rest)) in
-    erased-fit page index span code (fit-clauses page (u .fit)) (erasable-known (page .state) (not-false (isErasable (page .state)) (u .state)))
+    erased-fit page index span code (fit-clauses page (u .fit)) (known-state isErasable refl (page .state) (not-false (isErasable (page .state)) (u .state)))
     (ltb-false 126 (index + span) (or-false (eqb span 0) (ltb 126 (index + span)) range .1)) (not-false (allWritten (page .map) index span) marks)
 new-fit (purging namespace) image page code h =
     not-false (fitToUse page) (accepted-head (not (fitToUse page)) BadRecord [] (accepted-tail (badImage image .0) BadImage (badRecord page ∷ []) h))
@@ -259,4 +252,4 @@ done-hands-back-fit call image page n code d =
     let t = told call image page n in
     let facts = done-only (checksOf call image page) (checks-refuse call image page) (stops (t .count) (planOf call image page)) page (newOf call page)
     (sym (ap (λ (o : Outcome). o .answer) (t .outcome-is)) ∙ d) in
-    ap (λ (o : Outcome). fitToUse (o .page)) (t .outcome-is) ∙ ap fitToUse (facts .1) ∙ new-fit call image page code (facts .0)
+    ap (λ (o : Outcome). fitToUse (o .page)) (t .outcome-is) ∙ ap fitToUse (facts .2) ∙ new-fit call image page code (facts .0)

@@ -30,7 +30,7 @@ use Rattle.append.specs.Append.{singleBytes, singlePlan, spanFor, variableHeade
 use Rattle.copy.specs.Copy.{copiedBytes, copyPlan}
 use Rattle.erase.specs.Erase.{erasePlan}
 use Rattle.purge.specs.Purge.{heldSpan, purgePlan, purgeImage, toZero, zeroUnits, purgeNamespacePlan}
-use Rattle.promises.specs.Promises.{NewItem, single, variable, copied, initialising, markingFull, putting, erasing, purging, formed, spanOfNew, Write, rises, inOrder, marking, entryUnits, itemWrites, zeroWrites, joined, WritesInOrder, outside, PurgesItsEntries, PurgesNothingPast}
+use Rattle.promises.specs.Promises.{NewItem, single, variable, copied, initialising, markingFull, putting, erasing, purging, formed, spanOfNew, Write, rises, inOrder, marking, entryUnits, itemWrites, zeroWrites, joined, WritesInOrder, outside, PurgeInOrder, PurgesItsEntries, PurgesNothingPast}
 
 -- ---- units that rise
 
@@ -204,14 +204,14 @@ outside-none : (i : ℕ) (plan : List Unit4) → length plan ≡ 0 → Outside i
 outside-none i [] h = outside-nil
 outside-none i (unit address bytes ∷ plan) h = absurd (omega arith)
 
-outside-write : (i : ℕ) (write : Write) → inOrder write ≡ true → outside i write ≡ true → Outside i (i + 1) (write .done)
+outside-write : (i : ℕ) (write : Write) → inOrder write ≡ true → outside i write ≡ true → Outside i (i + 1) (write .plan)
 outside-write i write o h = by-tests (ltb i (write .from)) (leb (write .to) i) refl refl h
   where
     by-tests : (below behind : Bool) → ltb i (write .from) ≡ below → leb (write .to) i ≡ behind
-        → (below || (behind || eqb (length (write .done)) 0)) ≡ true → Outside i (i + 1) (write .done)
-    by-tests true behind b e h = outside-rises i (write .from) (write .to) (write .done) o (inl (ltb-true i (write .from) b))
-    by-tests false true b e h = outside-rises i (write .from) (write .to) (write .done) o (inr (leb-true (write .to) i e))
-    by-tests false false b e h = outside-none i (write .done) (eqb-true (length (write .done)) 0 h)
+        → (below || (behind || eqb (length (write .plan)) 0)) ≡ true → Outside i (i + 1) (write .plan)
+    by-tests true behind b e h = outside-rises i (write .from) (write .to) (write .plan) o (inl (ltb-true i (write .from) b))
+    by-tests false true b e h = outside-rises i (write .from) (write .to) (write .plan) o (inr (leb-true (write .to) i e))
+    by-tests false false b e h = outside-none i (write .plan) (eqb-true (length (write .plan)) 0 h)
 
 pub outside-joined : (i : ℕ) (writes : List Write) → every inOrder writes ≡ true → every (outside i) writes ≡ true → Outside i (i + 1) (joined writes)
 outside-joined i [] o h = outside-nil
@@ -234,9 +234,9 @@ getD-after i false plan image o = refl
 
 -- ---- purge by index
 
-rises-purge : (index span : ℕ) → rises (entryAddress index) (entryAddress (index + heldSpan index span)) (purgePlan index span) ≡ true
+pub purge-in-order : PurgeInOrder
 unfolding purgePlan
-rises-purge index span = by-test (ltb index 126)
+purge-in-order index span = by-test (ltb index 126)
   where
     by-test : (on : Bool)
         → rises (entryAddress index) (entryAddress (index + heldSpan index span))
@@ -250,7 +250,7 @@ pub purges-its-entries : PurgesItsEntries
 unfolding purgeImage
 purges-its-entries image index span i s =
     getD-after i (accepted (badImage image ∷ [])) (purgePlan index span) image
-    (outside-rises i (entryAddress index) (entryAddress (index + heldSpan index span)) (purgePlan index span) (rises-purge index span) s)
+    (outside-rises i (entryAddress index) (entryAddress (index + heldSpan index span)) (purgePlan index span) (purge-in-order index span) s)
 
 image-kept : (ok : Bool) (image : List ℕ) → cond ok (run [] image) image ≡ image
 unfolding run

@@ -192,7 +192,7 @@ clears-bits clears-nil i = refl
 clears-bits (clears-cons e c) zero = e
 clears-bits (clears-cons e c) (suc i) = clears-bits c i
 
-after-clears : (ok : Bool) (plan : List Unit4) (image : List ℕ) → SetsNoBit image (cond ok (run plan image) image)
+pub after-clears : (ok : Bool) (plan : List Unit4) (image : List ℕ) → SetsNoBit image (cond ok (run plan image) image)
 after-clears true plan image = (length-run plan image, clears-bits (clears-run plan image))
 after-clears false plan image = (refl, clears-bits (clears-refl image))
 

@@ -1,4 +1,4 @@
--- Promises of the writing calls (01, 'Programming', 'The record', 'Numbers that come back'), for all images, records and requests.
+-- Promises of the writing calls (01, 'Programming', 'The record', 'Numbers that come back'), for all images, records and requests that code can make.
 --
 -- In order: the calls, each read off its own crate; the total; 11, and 1 to 10; PageFull; cleared bits; the order of units; the bytes that are
 -- reached; fit records. Purge by index takes no record, and stands beside the others where it writes.
@@ -30,7 +30,7 @@ use Rattle.append.specs.declared.Variable.{Variable}
 use Rattle.append.specs.Append.{singleRequest, singleChecks, singleBytes, singlePlan, withSingle, appendSingle, appendSingleImage, spanFor, variableRequest, variableChecks, variableHeader, variablePlan, withVariable, appendVariable, appendVariableImage}
 use Rattle.copy.specs.Copy.{copyChecks, copiedBytes, copyPlan, withCopy, copyIn, copyInImage}
 use Rattle.erase.specs.Erase.{eraseChecks, erasePlan, erase, eraseImage}
-use Rattle.purge.specs.Purge.{heldSpan, purge, purgeImage, toZero, purgeNamespaceChecks, purgeNamespacePlan, purgeNamespace, purgeNamespaceImage}
+use Rattle.purge.specs.Purge.{heldSpan, purgePlan, purge, purgeImage, toZero, purgeNamespaceChecks, purgeNamespacePlan, purgeNamespace, purgeNamespaceImage}
 
 -- ---- the calls
 
@@ -204,7 +204,7 @@ PurgeOnlyClearsBits = (image : List ℕ) (index span : ℕ) → SetsNoBit image 
 pub record Write : Type 0 where
   pub from : ℕ
   pub to : ℕ
-  pub done : List Unit4
+  pub plan : List Unit4
 
 -- units of four bytes, each at or behind the end of the one before, from a place up to another
 unfoldable pub rises : ℕ → ℕ → List Unit4 → Bool
@@ -213,12 +213,12 @@ rises from to (unit address bytes ∷ plan) =
     leb from address && (leb (address + 4) to && (eqb (length bytes) 4 && rises (address + 4) to plan))
 
 abbrev pub inOrder : Write → Bool
-inOrder write = rises (write .from) (write .to) (write .done)
+inOrder write = rises (write .from) (write .to) (write .plan)
 
 -- the map's units that hold the marks of a range
 abbrev pub marking : ℕ → ℕ → List Unit4 → Write
 marking start span marks =
-    record { from = mapOffset + 4 * (start / 16); to = mapOffset + 4 * ((start + span - 1) / 16 + 1); done = marks }
+    record { from = mapOffset + 4 * (start / 16); to = mapOffset + 4 * ((start + span - 1) / 16 + 1); plan = marks }
 
 -- the units of an item's bytes
 abbrev pub entryUnits : NewItem → ThinPage → List Unit4
@@ -230,22 +230,22 @@ entryUnits (copied source i) page = units (entryAddress (nextFree page)) (copied
 -- its own entries, then the marks of its range, then the state word
 abbrev pub itemWrites : NewItem → ThinPage → List Write
 itemWrites new page =
-    record { from = entryAddress (nextFree page); to = entryAddress (nextFree page + spanOfNew new); done = entryUnits new page }
+    record { from = entryAddress (nextFree page); to = entryAddress (nextFree page + spanOfNew new); plan = entryUnits new page }
     ∷ marking (nextFree page) (spanOfNew new)
     (mapUnits (nextFree page) (spanOfNew new) (markRange Written (nextFree page) (spanOfNew new) (page .map)))
-    ∷ record { from = 0; to = 4; done = fullUnits (nextFree page + spanOfNew new) }
+    ∷ record { from = 0; to = 4; plan = fullUnits (nextFree page + spanOfNew new) }
     ∷ []
 
 -- one for each entry that is zeroed, from entry i on
 unfoldable pub zeroWrites : ℕ → List Bool → List Write
 zeroWrites i [] = []
 zeroWrites i (z ∷ zs) =
-    record { from = entryAddress i; to = entryAddress (suc i); done = cond z (units (entryAddress i) (replicate entrySize 0)) [] } ∷ zeroWrites (suc i) zs
+    record { from = entryAddress i; to = entryAddress (suc i); plan = cond z (units (entryAddress i) (replicate entrySize 0)) [] } ∷ zeroWrites (suc i) zs
 
 -- the writes of a call: initialise and mark full the header alone, erase the marks of its range alone, purge by namespace the entries that it zeroes alone
 abbrev pub writesOf : Call → List ℕ → ThinPage → List Write
-writesOf (initialising sequence) image page = record { from = 0; to = 32; done = initialisePlan sequence } ∷ []
-writesOf markingFull image page = record { from = 0; to = 4; done = markFullPlan } ∷ []
+writesOf (initialising sequence) image page = record { from = 0; to = 32; plan = initialisePlan sequence } ∷ []
+writesOf markingFull image page = record { from = 0; to = 4; plan = markFullPlan } ∷ []
 writesOf (putting new) image page = itemWrites new page
 writesOf (erasing index span) image page = marking index span (erasePlan page index span) ∷ []
 writesOf (purging namespace) image page = zeroWrites 0 (toZero namespace zero false (statesOf (page .map)) (entriesOf image))
@@ -253,7 +253,7 @@ writesOf (purging namespace) image page = zeroWrites 0 (toZero namespace zero fa
 -- the units of some writes, one write after the other
 abbrev pub joined : List Write → List Unit4
 joined [] = []
-joined (write ∷ writes) = write .done ++ joined writes
+joined (write ∷ writes) = write .plan ++ joined writes
 
 -- the plan is those writes in that order, and units rise within each: so bytes come before marks, and marks before the state word
 abbrev pub WritesInOrder : Type 0
@@ -261,11 +261,15 @@ WritesInOrder =
     (call : Call) (image : List ℕ) (page : ThinPage) → formed call ≡ true
     → (joined (writesOf call image page) ≡ planOf call image page) × (every inOrder (writesOf call image page) ≡ true)
 
+-- purge programs its own entries, in rising address
+abbrev pub PurgeInOrder : Type 0
+PurgeInOrder = (index span : ℕ) → rises (entryAddress index) (entryAddress (index + heldSpan index span)) (purgePlan index span) ≡ true
+
 -- ---- the bytes that are reached
 
 -- a byte outside a write that has units
 abbrev pub outside : ℕ → Write → Bool
-outside i write = ltb i (write .from) || (leb (write .to) i || eqb (length (write .done)) 0)
+outside i write = ltb i (write .from) || (leb (write .to) i || eqb (length (write .plan)) 0)
 
 -- no byte outside its writes is altered, at any n
 abbrev pub AltersNothingElse : Type 0

@@ -1,66 +1,35 @@
 -- A history with a step of each kind: the statements about histories are not empty. Every answer is computed.
+--
+-- In order: the requests; the page after each step; what is computed; the history.
 -- Assumes nothing.
-use mathlib.Core.Path.{_≡_, refl, sym, subst}
+use mathlib.Core.Path.{_≡_, refl, sym, ap, ap₂, subst}
 use mathlib.Core.Bool.{true}
 use mathlib.Core.List.{List, [], _∷_, _++_, List·Memᴰ, List·Memᴰ·head}
 use Prim.Native.Nat.{ℕ}
 use native.Mathlib.Omega.{arith}
 use lib.ListN.{length, replicate}
 use Rattle.append.specs.Append.{singleBytes, appendSingle, appendSingleImage, singlePlan, appendVariable, appendVariableImage, variablePlan}
+use Rattle.copy.specs.Copy.{copyIn, copyInImage, copyPlan}
 use Rattle.crc.specs.Crc.{shift, shifts, intake, register, crc32}
-use Rattle.erase.specs.Erase.{erasePlan, eraseImage}
-use Rattle.purge.specs.Purge.{purgePlan}
+use Rattle.erase.specs.Erase.{erasePlan, erase, eraseImage}
 use Rattle.flash.specs.Flash.{allOnes, program, units, run}
 use Rattle.header.specs.Calls.{initialised, initialisePlan, initialiseImage}
-use Rattle.payload.specs.Payload.{dataAnswer}
-use Rattle.load.specs.Load.{loadItem}
 use Rattle.marks.specs.Marks.{changedUnits}
-use Rattle.opening.specs.Opening.{headerVerdictOf, keptItems, openedMap, firstMap, openingPlan, openingImage}
-use Rattle.reading.specs.Reading.{headerRefusal, payloadRefusal, openedStates}
-use Rattle.page.specs.Record.{fitToUse, withItem, without, withErased}
+use Rattle.opening.specs.Opening.{headerVerdictOf, keptItems, openedMap, firstMap, openingPlan, openedPage, opening, openingImage}
+use Rattle.page.specs.declared.ThinPage.{ThinPage}
+use Rattle.page.specs.Record.{nextFree, fitToUse, withItem, without, withErased}
 use Rattle.page.specs.Writing.{itemPlan}
+use Rattle.reading.specs.Reading.{headerRefusal, payloadRefusal, Item, item, openedStates}
+use Rattle.sector.specs.declared.Answer.the-variants.{Done}
 use Rattle.sector.specs.Header.{stateOfWord, headerCrc, headerBytes}
 use Rattle.sector.specs.Item.{itemCrc, hashOf, loads, itemBytes, sizedData}
 use Rattle.sector.specs.Layout.{chunks}
 use Rattle.sector.specs.Map.{countIn, markRange, mapUnits}
 use Rattle.sector.specs.Types.{itemType}
-use Rattle.page.specs.declared.ThinPage.{ThinPage}
-use Rattle.sector.specs.declared.Answer.the-variants.{Done}
-use Rattle.sector.specs.Layout.{entryAt}
-use Rattle.copy.specs.Copy.{copyIn, copyInImage, copyPlan}
-use Rattle.erase.specs.Erase.{erase}
-use Rattle.opening.specs.Opening.{opening, openedPage}
-use Rattle.reading.specs.Reading.{Item, item}
 use Rattle.starred.specs.Edges.{freshImage, single, sized}
-use Rattle.power_cut.specs.History.{Sector, SingleRequest, VariableRequest, KeptIn, Write, a-single, a-variable, a-copy, outcomeOf, imageOf, newItem, withoutItem, History, opened, written, erased}
+use Rattle.power_cut.specs.History.{allBytes, SingleRequest, VariableRequest, KeptIn, a-single, a-variable, a-copy, entriesOfWrite, History, opened, written, erased}
 
--- a point of some history
-record Point : Type 0 where
-  image : List ℕ
-  page : ThinPage
-  items : List Item
-  history : History image page items
-
-abbrev put : (p : Point) (write : Write) (n : ℕ) → outcomeOf write (p .image) (p .page) n .answer ≡ Done → Point
-put p write n d =
-    record {
-      image = imageOf write (p .image) (p .page) n;
-      page = outcomeOf write (p .image) (p .page) n .page;
-      items = p .items ++ (newItem write (p .page) ∷ []);
-      history = written write n (p .history) d;
-    }
-
-fresh-sector : Sector freshImage
-unfolding appendSingle appendSingleImage singlePlan appendVariable appendVariableImage variablePlan shift shifts intake register crc32 erasePlan eraseImage purgePlan allOnes program units run initialised initialisePlan initialiseImage loadItem dataAnswer headerVerdictOf keptItems openedMap firstMap changedUnits openingPlan openingImage headerRefusal payloadRefusal openedStates fitToUse withItem without withErased itemPlan stateOfWord headerCrc headerBytes itemCrc hashOf loads itemBytes sizedData chunks countIn markRange mapUnits itemType opening openedPage copyIn copyInImage copyPlan erase
-fresh-sector = record { size = refl; bytes = refl }
-
-opens : opening freshImage .answer ≡ Done
-unfolding appendSingle appendSingleImage singlePlan appendVariable appendVariableImage variablePlan shift shifts intake register crc32 erasePlan eraseImage purgePlan allOnes program units run initialised initialisePlan initialiseImage loadItem dataAnswer headerVerdictOf keptItems openedMap firstMap changedUnits openingPlan openingImage headerRefusal payloadRefusal openedStates fitToUse withItem without withErased itemPlan stateOfWord headerCrc headerBytes itemCrc hashOf loads itemBytes sizedData chunks countIn markRange mapUnits itemType opening openedPage copyIn copyInImage copyPlan erase
-opens = refl
-
--- a page just initialised, opened
-abbrev start : Point
-start = record { image = openingImage freshImage; page = opening freshImage .page; items = keptItems freshImage; history = opened fresh-sector opens }
+-- ---- the requests
 
 asked-single : SingleRequest single
 asked-single =
@@ -72,56 +41,108 @@ payload = replicate 33 7
 asked-sized : VariableRequest sized payload
 asked-sized = record { namespace = omega arith; kind = omega arith; chunk = omega arith; key-size = refl; key = refl; bytes = refl }
 
--- a single entry is put
-single-done : outcomeOf (a-single single asked-single) (start .image) (start .page) 9 .answer ≡ Done
-unfolding appendSingle appendSingleImage singlePlan appendVariable appendVariableImage variablePlan shift shifts intake register crc32 erasePlan eraseImage purgePlan allOnes program units run initialised initialisePlan initialiseImage loadItem dataAnswer headerVerdictOf keptItems openedMap firstMap changedUnits openingPlan openingImage headerRefusal payloadRefusal openedStates fitToUse withItem without withErased itemPlan stateOfWord headerCrc headerBytes itemCrc hashOf loads itemBytes sizedData chunks countIn markRange mapUnits itemType opening openedPage copyIn copyInImage copyPlan erase
-single-done = refl
+-- ---- the page after each step
 
-abbrev with-single : Point
-with-single = put start (a-single single asked-single) 9 single-done
+-- just initialised, and opened
+abbrev image₀ : List ℕ
+image₀ = openingImage freshImage
+
+abbrev page₀ : ThinPage
+page₀ = opening freshImage .page
+
+-- a single entry is put
+abbrev image₁ : List ℕ
+image₁ = appendSingleImage image₀ page₀ single 9
+
+abbrev page₁ : ThinPage
+page₁ = appendSingle image₀ page₀ single 9 .page
 
 -- 33 bytes are put
-sized-done : outcomeOf (a-variable sized payload asked-sized) (with-single .image) (with-single .page) 18 .answer ≡ Done
-unfolding appendSingle appendSingleImage singlePlan appendVariable appendVariableImage variablePlan shift shifts intake register crc32 erasePlan eraseImage purgePlan allOnes program units run initialised initialisePlan initialiseImage loadItem dataAnswer headerVerdictOf keptItems openedMap firstMap changedUnits openingPlan openingImage headerRefusal payloadRefusal openedStates fitToUse withItem without withErased itemPlan stateOfWord headerCrc headerBytes itemCrc hashOf loads itemBytes sizedData chunks countIn markRange mapUnits itemType opening openedPage copyIn copyInImage copyPlan erase
-sized-done = refl
+abbrev image₂ : List ℕ
+image₂ = appendVariableImage image₁ page₁ sized payload 18
 
-abbrev with-payload : Point
-with-payload = put with-single (a-variable sized payload asked-sized) 18 sized-done
+abbrev page₂ : ThinPage
+page₂ = appendVariable image₁ page₁ sized payload 18 .page
 
 -- the single entry of another page, this one as it was then, is copied in
-source-sector : Sector (with-single .image)
-unfolding appendSingle appendSingleImage singlePlan appendVariable appendVariableImage variablePlan shift shifts intake register crc32 erasePlan eraseImage purgePlan allOnes program units run initialised initialisePlan initialiseImage loadItem dataAnswer headerVerdictOf keptItems openedMap firstMap changedUnits openingPlan openingImage headerRefusal payloadRefusal openedStates fitToUse withItem without withErased itemPlan stateOfWord headerCrc headerBytes itemCrc hashOf loads itemBytes sizedData chunks countIn markRange mapUnits itemType opening openedPage copyIn copyInImage copyPlan erase
-source-sector = record { size = refl; bytes = refl }
+abbrev image₃ : List ℕ
+image₃ = copyInImage image₂ page₂ image₁ 0 9
 
-kept-is : keptItems (with-single .image) ≡ item 0 (singleBytes single ∷ []) ∷ []
-unfolding appendSingle appendSingleImage singlePlan appendVariable appendVariableImage variablePlan shift shifts intake register crc32 erasePlan eraseImage purgePlan allOnes program units run initialised initialisePlan initialiseImage loadItem dataAnswer headerVerdictOf keptItems openedMap firstMap changedUnits openingPlan openingImage headerRefusal payloadRefusal openedStates fitToUse withItem without withErased itemPlan stateOfWord headerCrc headerBytes itemCrc hashOf loads itemBytes sizedData chunks countIn markRange mapUnits itemType opening openedPage copyIn copyInImage copyPlan erase
-kept-is = refl
+abbrev page₃ : ThinPage
+page₃ = copyIn image₂ page₂ image₁ 0 9 .page
 
-single-kept : KeptIn (with-single .image) 0 (singleBytes single ∷ [])
-single-kept =
+-- the items put: a single entry, data, the single entry once more
+abbrev first : Item
+first = item 0 (singleBytes single ∷ [])
+
+abbrev others : List Item
+others = item 1 (entriesOfWrite (a-variable sized payload asked-sized)) ∷ (item 4 (singleBytes single ∷ []) ∷ [])
+
+-- as a history has them
+abbrev items₃ : List Item
+items₃ =
+    ((keptItems freshImage ++ (item (nextFree page₀) (singleBytes single ∷ []) ∷ []))
+    ++ (item (nextFree page₁) (entriesOfWrite (a-variable sized payload asked-sized)) ∷ []))
+    ++ (item (nextFree page₂) (singleBytes single ∷ []) ∷ [])
+
+-- ---- what is computed
+
+record Computed : Type 0 where
+  fresh-size : length freshImage ≡ 4096
+  fresh-bytes : allBytes freshImage ≡ true
+  opens : opening freshImage .answer ≡ Done
+  puts-single : appendSingle image₀ page₀ single 9 .answer ≡ Done
+  puts-data : appendVariable image₁ page₁ sized payload 18 .answer ≡ Done
+  source-size : length image₁ ≡ 4096
+  source-bytes : allBytes image₁ ≡ true
+  source-keeps : keptItems image₁ ≡ first ∷ []
+  copies : copyIn image₂ page₂ image₁ 0 9 .answer ≡ Done
+  erases : erase image₃ page₃ 0 1 .answer ≡ Done
+  holds-nothing : keptItems freshImage ≡ []
+  next-free : (nextFree page₀ ≡ 0) × (nextFree page₁ ≡ 1) × (nextFree page₂ ≡ 4)
+
+computed : Computed
+unfolding appendSingle appendSingleImage singlePlan appendVariable appendVariableImage variablePlan shift shifts intake register crc32 erasePlan eraseImage allOnes program units run initialised initialisePlan initialiseImage headerVerdictOf keptItems openedMap firstMap changedUnits openingPlan openingImage headerRefusal payloadRefusal openedStates fitToUse withItem without withErased itemPlan stateOfWord headerCrc headerBytes itemCrc hashOf loads itemBytes sizedData chunks countIn markRange mapUnits itemType opening openedPage copyIn copyInImage copyPlan erase
+computed =
     record {
-      sector = source-sector;
-      kept = subst (List·Memᴰ (item 0 (singleBytes single ∷ []))) (sym kept-is) (List·Memᴰ·head {xs = []} refl);
+      fresh-size = refl;
+      fresh-bytes = refl;
+      opens = refl;
+      puts-single = refl;
+      puts-data = refl;
+      source-size = refl;
+      source-bytes = refl;
+      source-keeps = refl;
+      copies = refl;
+      erases = refl;
+      holds-nothing = refl;
+      next-free = (refl, refl, refl);
     }
 
-copy-done : outcomeOf (a-copy (with-single .image) 0 (singleBytes single ∷ []) single-kept) (with-payload .image) (with-payload .page) 9 .answer ≡ Done
-unfolding appendSingle appendSingleImage singlePlan appendVariable appendVariableImage variablePlan shift shifts intake register crc32 erasePlan eraseImage purgePlan allOnes program units run initialised initialisePlan initialiseImage loadItem dataAnswer headerVerdictOf keptItems openedMap firstMap changedUnits openingPlan openingImage headerRefusal payloadRefusal openedStates fitToUse withItem without withErased itemPlan stateOfWord headerCrc headerBytes itemCrc hashOf loads itemBytes sizedData chunks countIn markRange mapUnits itemType opening openedPage copyIn copyInImage copyPlan erase
-copy-done = refl
+-- ---- the history
 
-abbrev with-copy : Point
-with-copy = put with-payload (a-copy (with-single .image) 0 (singleBytes single ∷ []) single-kept) 9 copy-done
+single-kept : KeptIn image₁ 0 (singleBytes single ∷ [])
+single-kept =
+    record {
+      sector = record { size = computed .source-size; bytes = computed .source-bytes };
+      kept = subst (List·Memᴰ first) (sym (computed .source-keeps)) (List·Memᴰ·head {xs = []} refl);
+    }
 
--- and the first entry is erased
-erase-done : erase (with-copy .image) (with-copy .page) 0 1 .answer ≡ Done
-unfolding appendSingle appendSingleImage singlePlan appendVariable appendVariableImage variablePlan shift shifts intake register crc32 erasePlan eraseImage purgePlan allOnes program units run initialised initialisePlan initialiseImage loadItem dataAnswer headerVerdictOf keptItems openedMap firstMap changedUnits openingPlan openingImage headerRefusal payloadRefusal openedStates fitToUse withItem without withErased itemPlan stateOfWord headerCrc headerBytes itemCrc hashOf loads itemBytes sizedData chunks countIn markRange mapUnits itemType opening openedPage copyIn copyInImage copyPlan erase
-erase-done = refl
+put : History image₃ page₃ items₃
+put =
+    let start : History image₀ page₀ (keptItems freshImage) =
+    opened (record { size = computed .fresh-size; bytes = computed .fresh-bytes }) (computed .opens) in
+    written (a-copy image₁ 0 (singleBytes single ∷ []) single-kept) 9
+    (written (a-variable sized payload asked-sized) 18 (written (a-single single asked-single) 9 start (computed .puts-single)) (computed .puts-data))
+    (computed .copies)
 
-items-are : with-copy .items ≡ item 0 (singleBytes single ∷ []) ∷ (newItem (a-variable sized payload asked-sized) (with-single .page) ∷ newItem (a-copy (with-single .image) 0 (singleBytes single ∷ []) single-kept) (with-payload .page) ∷ [])
-unfolding appendSingle appendSingleImage singlePlan appendVariable appendVariableImage variablePlan shift shifts intake register crc32 erasePlan eraseImage purgePlan allOnes program units run initialised initialisePlan initialiseImage loadItem dataAnswer headerVerdictOf keptItems openedMap firstMap changedUnits openingPlan openingImage headerRefusal payloadRefusal openedStates fitToUse withItem without withErased itemPlan stateOfWord headerCrc headerBytes itemCrc hashOf loads itemBytes sizedData chunks countIn markRange mapUnits itemType opening openedPage copyIn copyInImage copyPlan erase
-items-are = refl
+items-are : items₃ ≡ first ∷ others
+items-are =
+    rw (computed .holds-nothing)
+    (ap₂ (λ (at : ℕ) (rest : List Item). item at (singleBytes single ∷ []) ∷ rest) (computed .next-free .0)
+    (ap₂ (λ (at : ℕ) (rest : List Item). item at (entriesOfWrite (a-variable sized payload asked-sized)) ∷ rest) (computed .next-free .1)
+    (ap (λ (at : ℕ). item at (singleBytes single ∷ []) ∷ []) (computed .next-free .2))))
 
-in-items : List·Memᴰ (item 0 (singleBytes single ∷ [])) (with-copy .items)
-in-items = subst (List·Memᴰ (item 0 (singleBytes single ∷ []))) (sym items-are) (List·Memᴰ·head {xs = newItem (a-variable sized payload asked-sized) (with-single .page) ∷ newItem (a-copy (with-single .image) 0 (singleBytes single ∷ []) single-kept) (with-payload .page) ∷ []} refl)
-
-example : History (eraseImage (with-copy .image) (with-copy .page) 0 1) (erase (with-copy .image) (with-copy .page) 0 1 .page) (withoutItem 0 (with-copy .items))
-example = erased 0 (singleBytes single ∷ []) (with-copy .history) in-items erase-done
+-- and the first item is erased
+example : History (eraseImage image₃ page₃ 0 1) (erase image₃ page₃ 0 1 .page) others
+example = erased 0 (singleBytes single ∷ []) (subst (History image₃ page₃) items-are put) (List·Memᴰ·head {xs = others} refl) (computed .erases)

@@ -8,19 +8,17 @@ use mathlib.Core.Bool.{Bool, true, cond}
 use mathlib.Core.List.{List, [], _∷_, _++_}
 use Prim.Native.Nat.{ℕ}
 use lib.Dec.{eqb}
-use lib.ListN.{length, take, getD, replicate, set}
-use Rattle.crc.specs.Crc.{crc32}
-use Rattle.flash.specs.Flash.{every, run, program}
+use lib.ListN.{length, getD, replicate, set}
+use Rattle.flash.specs.Flash.{every, program}
 use Rattle.page.specs.declared.ThinPage.{ThinPage}
 use Rattle.page.specs.Record.{uninitialized}
-use Rattle.sector.specs.declared.Answer.{Answer}
 use Rattle.sector.specs.declared.EntryMapState.{EntryMapState}
-use Rattle.sector.specs.declared.EntryMapState.the-variants.{Empty, Written, Erased, Illegal}
+use Rattle.sector.specs.declared.EntryMapState.the-variants.{Empty, Written, Erased}
 use Rattle.sector.specs.declared.PageState.the-variants.{Active, Full}
 use Rattle.sector.specs.Answers.{numberOf}
 use Rattle.sector.specs.Header.{wordOf}
-use Rattle.sector.specs.Item.{itemBytes, sizedData, crcStart}
-use Rattle.sector.specs.Layout.{sectorSize, entryAddress, entryAt, mapOf, littleEndian, typeByteOf, spanOf, sameBytes}
+use Rattle.sector.specs.Item.{itemBytes}
+use Rattle.sector.specs.Layout.{sectorSize, entryAt, mapOf, littleEndian, typeByteOf, spanOf, sameBytes}
 use Rattle.sector.specs.Map.{bitsOf, stateAt, markRange}
 use Rattle.header.specs.Calls.{initialised, initialiseImage}
 use Rattle.append.specs.declared.Single.{Single}
