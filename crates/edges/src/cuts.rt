@@ -1,12 +1,20 @@
 // Calls cut by a stop, and what opening then finds.
-use crate::calls;
-use crate::calls::Call;
-use crate::lines;
-use crate::records;
-use crate::records::Sector;
+use trials::calls;
+use trials::calls::Call;
+use trials::lines;
+use trials::records;
+use trials::records::Sector;
 
 fn open(sector: Sector, at: usize) -> Sector {
-    let opened = calls::after(sector, Call::Open, 0);
+    let mut image = sector.image;
+    let outcome = opening::open_page(&mut image);
+    let answer = outcome.answer;
+    let page = outcome.page;
+    let opened = Sector {
+        answer,
+        image,
+        page,
+    };
     show::text(b"then opened");
     lines::print(opened, at);
     opened

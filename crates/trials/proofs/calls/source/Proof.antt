@@ -2,8 +2,8 @@
 use native.Mathlib.Omega.{arith}
 use lib.ListN.{length-set}
 use borrow.Author.Needs.{needs}
-use Rattle.edges.proofs.calls.source.Statement.{statement}
-use Rattle.edges.proofs.calls.source.Tie as tie
+use Rattle.trials.proofs.calls.source.Statement.{statement}
+use Rattle.trials.proofs.calls.source.Tie as tie
 
 item-bytes-requires : tie.Need-item-bytes-requires
 item-bytes-requires c κs = search needs

@@ -1,8 +1,8 @@
 -- `units::units` is safe and ends: n rises, and stays below 1,100.
 use Prim.Native.Nat.{_-_}
 use borrow.Author.Needs.{needs}
-use Rattle.edges.proofs.units.units.Statement.{statement}
-use Rattle.edges.proofs.units.units.Tie as tie
+use Rattle.trials.proofs.units.units.Statement.{statement}
+use Rattle.trials.proofs.units.units.Tie as tie
 
 abbrev Inv-loop : tie.InvT-loop
 Inv-loop sector call n₀ n = Unit

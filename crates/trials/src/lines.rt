@@ -22,7 +22,7 @@ fn print_bytes(listed: u8, state: u8, at: usize, kept: u8, written: u8) {
 }
 
 // The answer, the counts, the first byte of the state word, and a byte of the map as record and image have it.
-pub(crate) fn print(sector: Sector, at: usize) {
+pub fn print(sector: Sector, at: usize) {
     let answer = sector.answer;
     show::answered(b": answer ", answer);
     let page = sector.page;

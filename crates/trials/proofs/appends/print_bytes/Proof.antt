@@ -1,8 +1,8 @@
 -- `appends::print_bytes` is safe and ends: the place rises, and stays below 97.
 use Prim.Native.Nat.{_-_}
 use borrow.Author.Needs.{needs}
-use Rattle.edges.proofs.appends.print_bytes.Statement.{statement}
-use Rattle.edges.proofs.appends.print_bytes.Tie as tie
+use Rattle.trials.proofs.appends.print_bytes.Statement.{statement}
+use Rattle.trials.proofs.appends.print_bytes.Tie as tie
 
 abbrev Inv-loop : tie.InvT-loop
 Inv-loop image k₀ t4 t5 k = Unit

@@ -7,7 +7,7 @@ use sector::Answer;
 use sector::PageState;
 
 // A page, and what the call that left it so answered.
-pub(crate) struct Sector {
+pub struct Sector {
     pub answer: Answer,
     pub image: [u8; 4096],
     pub page: ThinPage,
@@ -34,7 +34,7 @@ fn blank() -> Sector {
 }
 
 // A page with nothing in it whose state word has this first byte: 0xFF Uninitialized, 0xFE Active, 0xFC Full.
-pub(crate) fn empty(state: u8) -> Sector {
+pub fn empty(state: u8) -> Sector {
     let blank = blank();
     if state == 0xFF {
         return blank;

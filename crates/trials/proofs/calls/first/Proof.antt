@@ -2,8 +2,8 @@
 use borrow.Author.Needs.{needs}
 use native.Mathlib.Omega.{arith}
 use lib.ListN.{length-take}
-use Rattle.edges.proofs.calls.first.Statement.{statement}
-use Rattle.edges.proofs.calls.first.Tie as tie
+use Rattle.trials.proofs.calls.first.Statement.{statement}
+use Rattle.trials.proofs.calls.first.Tie as tie
 
 slice-aggregate-result : tie.Need-slice-aggregate-result
 slice-aggregate-result c = rw length-take (omega arith)

@@ -35,7 +35,6 @@ pub enum Call {
     Purge {
         namespace: u8,
     },
-    Open,
 }
 
 pub(crate) fn single(
@@ -106,10 +105,9 @@ fn copy_in(
 // The calls that are never stopped.
 fn run_whole(image: &mut [u8], page: ThinPage, call: Call) -> Outcome {
     match call {
-        Call::MarkFull => header::mark_as_full(image, page),
         Call::Erase { index, span } => erase::erase_item(image, page, index, span),
         Call::Purge { namespace } => purge::purge_erased_for_namespace(image, page, namespace),
-        _ => opening::open_page(image),
+        _ => header::mark_as_full(image, page),
     }
 }
 
@@ -143,7 +141,7 @@ fn run(image: &mut [u8], page: ThinPage, call: Call, n: usize) -> Outcome {
 }
 
 // What the call leaves when it is stopped at n.
-pub(crate) fn after(sector: Sector, call: Call, n: usize) -> Sector {
+pub fn after(sector: Sector, call: Call, n: usize) -> Sector {
     let mut image = sector.image;
     let page = sector.page;
     let outcome = run(&mut image, page, call, n);
