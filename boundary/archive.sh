@@ -18,7 +18,8 @@ cd "$(dirname "$0")/.."
 
 machine=$(uname -m)
 if [ "$machine" = x86_64 ]; then
-    rt staticlib boundary >/dev/null || fail "rt staticlib boundary failed"
+    said=$(rt staticlib boundary 2>&1) ||
+        { printf '%s\n' "$said" >&2; fail "rt staticlib boundary failed"; }
     cp target/staticlib/libboundary.a "$out"
     exit 0
 fi

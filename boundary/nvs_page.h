@@ -7,7 +7,8 @@
  * what no code behind a pointer can check: each pointer is good for its length, and two slices of which one is written
  * do not overlap.
  *
- * Link target/staticlib/libboundary.a.
+ * Link the archive that `boundary/archive.sh OUT.a` makes for the processor at hand. On x86-64 Linux it is
+ * target/staticlib/libboundary.a, which `rt staticlib boundary` writes.
  */
 #ifndef NVS_PAGE_H
 #define NVS_PAGE_H
