@@ -6,60 +6,93 @@ use compare::record::Record;
 use crate::ours::Ours;
 use crate::recorded::*;
 
+/// Why a replay ends before the file does. The program `recorded` says it in the same words.
+const CUT_SHORT: &str = "the file is cut short there";
+const NO_FRAME: &str = "a frame there is of none of the kinds 0 to 6";
+const OUT_OF_BUFFER: &str = "a frame there leaves its buffer, or names none of the seven";
+const NO_CALL: &str = "a frame there names none of the calls";
+const LONG_REQUEST: &str = "a request there is for more bytes than a buffer has";
+const OUT_OF_ORDER: &str = "a call and its compare do not follow each other there";
+const BEHIND: &str = "bytes follow the end frame there";
+const OTHER_NUMBER: &str = "the file ends there, and its head says another number";
+
 /// The buffers of a case as they went in, and as our side left them.
 struct Replay {
     buffers: [Vec<u8>; 7],
     left: [Vec<u8>; 7],
+    /// Whether a call waits for its compare.
+    open: bool,
+    compared: u32,
+    wrong: u32,
 }
 
 /// How many cases the file has, and how many of them our side answers otherwise.
 pub fn replay(file: &[u8]) -> Result<(u32, u32), String> {
-    let (start, mut rest) = file.split_at_checked(16).ok_or("the file is too short")?;
-    if start[..8] != *MAGIC || start[8..12] != VERSION.to_le_bytes() {
-        return Err("this is no recorded file of version 1".into());
+    let (head, frames) =
+        file.split_at_checked(16).ok_or("the file is cut short: its first 16 bytes are not all there")?;
+    if head[..8] != *MAGIC || head[8..12] != VERSION.to_le_bytes() {
+        return Err("this is no recorded file of version 1: its first 12 bytes are others".into());
     }
+    let cases = number(&head[12..]) as u32;
     let buffers = SIZES.map(|size| vec![0; size]);
-    let mut replay = Replay { left: buffers.clone(), buffers };
-    let (mut compared, mut wrong) = (0, 0);
-    loop {
-        let (frame, behind) = rest.split_at_checked(FRAME).ok_or("a frame is cut short")?;
-        rest = behind;
-        match frame[0] {
-            END => break,
-            COMPARE => {
-                compared += 1;
-                wrong += u32::from(!replay.agrees());
-            }
-            CALL => replay.call(frame[1])?,
-            _ => rest = replay.change(frame, rest).ok_or("a frame leaves its buffer")?,
-        }
-    }
-    let cases = number(&start[12..]) as u32;
-    if compared == cases { Ok((cases, wrong)) } else { Err(format!("{compared} of {cases} cases")) }
+    let mut replay = Replay { left: buffers.clone(), buffers, open: false, compared: 0, wrong: 0 };
+    let ended = replay.run(frames, cases);
+    ended.map_err(|why| format!("the replay stops after {} cases: {why}", replay.compared))?;
+    Ok((cases, replay.wrong))
 }
 
 impl Replay {
+    /// Every frame in turn, up to the end frame.
+    fn run(&mut self, mut rest: &[u8], cases: u32) -> Result<(), &'static str> {
+        loop {
+            let (frame, behind) = rest.split_at_checked(FRAME).ok_or(CUT_SHORT)?;
+            rest = behind;
+            match frame[0] {
+                END if self.open => return Err(OUT_OF_ORDER),
+                END if !rest.is_empty() => return Err(BEHIND),
+                END if self.compared != cases => return Err(OTHER_NUMBER),
+                END => return Ok(()),
+                CALL if !self.open => self.call(frame[1])?,
+                COMPARE if self.open => self.compare(),
+                CALL | COMPARE => return Err(OUT_OF_ORDER),
+                _ => rest = self.change(frame, rest)?,
+            }
+        }
+    }
+
     /// The frames that change a buffer; what is left of the file.
-    fn change<'a>(&mut self, frame: &[u8], rest: &'a [u8]) -> Option<&'a [u8]> {
+    fn change<'a>(&mut self, frame: &[u8], rest: &'a [u8]) -> Result<&'a [u8], &'static str> {
         let [offset, length, argument] = [2, 4, 6].map(|at| number(&frame[at..at + 2]) as usize);
+        let name = frame[1] as usize;
+        if SIZES.get(name).is_none_or(|&size| offset + length > size) {
+            return Err(OUT_OF_BUFFER);
+        }
+        let copied = |buffer: usize| self.buffers[buffer].get(argument..argument + length).ok_or(OUT_OF_BUFFER);
         let (bytes, rest) = match frame[0] {
-            PUT => rest.split_at_checked(length).map(|(bytes, rest)| (bytes.to_vec(), rest))?,
+            PUT => rest.split_at_checked(length).map(|(bytes, rest)| (bytes.to_vec(), rest)).ok_or(CUT_SHORT)?,
             FILL => (vec![argument as u8; length], rest),
-            COPY_DATA => (self.buffers[DATA].get(argument..argument + length)?.to_vec(), rest),
-            COPY_SOURCE => (self.buffers[SOURCE].get(argument..argument + length)?.to_vec(), rest),
-            _ => return None,
+            COPY_DATA => (copied(DATA)?.to_vec(), rest),
+            COPY_SOURCE => (copied(SOURCE)?.to_vec(), rest),
+            _ => return Err(NO_FRAME),
         };
-        let buffer = self.buffers.get_mut(frame[1] as usize)?;
-        buffer.get_mut(offset..offset + length)?.copy_from_slice(&bytes);
-        Some(rest)
+        self.buffers[name][offset..offset + length].copy_from_slice(&bytes);
+        Ok(rest)
+    }
+
+    fn compare(&mut self) {
+        self.open = false;
+        self.compared += 1;
+        self.wrong += u32::from(!self.agrees());
     }
 
     fn agrees(&self) -> bool {
         [IMAGE, PAGE, OUTPUT, RESULT].iter().all(|&buffer| self.buffers[buffer] == self.left[buffer])
     }
 
-    fn call(&mut self, call: u8) -> Result<(), String> {
-        let case = self.case(*CALLS.get(call as usize).ok_or_else(|| format!("{call} is no call"))?);
+    fn call(&mut self, call: u8) -> Result<(), &'static str> {
+        let call = CALLS.get(call as usize).filter(|&&call| call != Call::Open).ok_or(NO_CALL)?;
+        let case = self.case(*call).ok_or(LONG_REQUEST)?;
+        self.open = true;
         let mut outcome = Outcome::default();
         Ours::default().run(&case, number(&self.buffers[REQUEST][24..32]), &mut outcome);
         self.left.clone_from(&self.buffers);
@@ -71,7 +104,8 @@ impl Replay {
         Ok(())
     }
 
-    fn case(&self, call: Call) -> Case {
+    /// None where the request is for more bytes than a buffer has.
+    fn case(&self, call: Call) -> Option<Case> {
         let request = &self.buffers[REQUEST];
         let mut case = Case::new(call);
         case.image.copy_from_slice(&self.buffers[IMAGE]);
@@ -81,15 +115,72 @@ impl Replay {
         case.number = number(&request[4..8]) as u32;
         case.index = number(&request[8..16]);
         case.span = number(&request[16..24]);
-        case.data = self.buffers[DATA][..number(&request[32..34]) as usize].to_vec();
-        case.output = self.buffers[OUTPUT][..number(&request[34..36]) as usize].to_vec();
+        case.data = self.buffers[DATA].get(..number(&request[32..34]) as usize)?.to_vec();
+        case.output = self.buffers[OUTPUT].get(..number(&request[34..36]) as usize)?.to_vec();
         case.key.copy_from_slice(&request[40..56]);
         case.single.copy_from_slice(&request[56..]);
-        case
+        Some(case)
     }
 }
 
 /// Little endian.
 fn number(bytes: &[u8]) -> u64 {
     bytes.iter().rev().fold(0, |number, &byte| number << 8 | u64::from(byte))
+}
+
+#[cfg(test)]
+mod tests {
+    use super::*;
+
+    /// A file of so many cases, by its head.
+    fn file(cases: u8, frames: &[[u8; FRAME]]) -> Vec<u8> {
+        [MAGIC, &VERSION.to_le_bytes()[..], &[cases, 0, 0, 0], frames.as_flattened()].concat()
+    }
+
+    fn frame(kind: u8, name: u8) -> [u8; FRAME] {
+        [kind, name, 0, 0, 0, 0, 0, 0]
+    }
+
+    const END_FRAME: [u8; FRAME] = [END, 0, 0, 0, 0, 0, 0, 0];
+
+    fn stops(cases: u8, frames: &[[u8; FRAME]], compared: u32, why: &str) {
+        assert_eq!(replay(&file(cases, frames)), Err(format!("the replay stops after {compared} cases: {why}")));
+    }
+
+    #[test]
+    fn a_whole_file_is_replayed() {
+        let (call, compare) = (frame(CALL, 4), frame(COMPARE, 0));
+        let [asked, right, wrong] =
+            [[FILL, 5, 1, 0, 1, 0, 1, 0], [FILL, 6, 0, 0, 1, 0, 1, 0], [FILL, 6, 0, 0, 1, 0, 2, 0]];
+        let frames = [asked, call, right, compare, call, wrong, compare, END_FRAME];
+        assert_eq!(replay(&file(2, &frames)), Ok((2, 1)));
+    }
+
+    #[test]
+    fn a_head_that_is_wrong_has_a_sentence() {
+        let cut = "the file is cut short: its first 16 bytes are not all there";
+        let other = "this is no recorded file of version 1: its first 12 bytes are others";
+        assert_eq!(replay(&file(0, &[])[..15]), Err(cut.into()));
+        assert_eq!(replay(&[0; 24]), Err(other.into()));
+    }
+
+    #[test]
+    fn a_frame_that_is_wrong_has_a_sentence() {
+        let (call, compare) = (frame(CALL, 4), frame(COMPARE, 0));
+        stops(0, &[], 0, CUT_SHORT);
+        stops(0, &[[PUT, 0, 0, 0, 9, 0, 0, 0], END_FRAME], 0, CUT_SHORT);
+        stops(0, &[frame(7, 0), END_FRAME], 0, NO_FRAME);
+        stops(0, &[frame(FILL, 7), END_FRAME], 0, OUT_OF_BUFFER);
+        stops(0, &[[FILL, 5, 60, 0, 5, 0, 0, 0], END_FRAME], 0, OUT_OF_BUFFER);
+        stops(0, &[[COPY_DATA, 0, 0, 0, 1, 0, 0, 16], END_FRAME], 0, OUT_OF_BUFFER);
+        stops(1, &[frame(CALL, 22), compare, END_FRAME], 0, NO_CALL);
+        stops(1, &[frame(CALL, 12), compare, END_FRAME], 0, NO_CALL);
+        stops(1, &[[FILL, 5, 33, 0, 1, 0, 17, 0], call, compare, END_FRAME], 0, LONG_REQUEST);
+        stops(2, &[call, compare, [FILL, 5, 35, 0, 1, 0, 17, 0], call, compare, END_FRAME], 1, LONG_REQUEST);
+        stops(1, &[call, call, compare, END_FRAME], 0, OUT_OF_ORDER);
+        stops(1, &[call, compare, compare, END_FRAME], 1, OUT_OF_ORDER);
+        stops(1, &[call, END_FRAME], 0, OUT_OF_ORDER);
+        stops(1, &[call, compare, END_FRAME, END_FRAME], 1, BEHIND);
+        stops(2, &[call, compare, END_FRAME], 1, OTHER_NUMBER);
+    }
 }
