@@ -1,7 +1,6 @@
 //! Names the files of the original to the compiler, unchanged and where they lie.
 //!
-//! NVS_SOURCE names their folder, from the repository's root where it is no absolute path. Without it the folder is
-//! ../shared/docs/src, next to the repository.
+//! NVS_SOURCE names their folder, from the repository's root where it is no absolute path.
 
 use std::env;
 use std::fmt::Write;
@@ -32,15 +31,16 @@ fn main() {
         "there is no archive of the page calls: run `rt staticlib boundary`, or name one by NVS_PAGE_LIB"
     );
     let root = Path::new(env!("CARGO_MANIFEST_DIR")).parent().expect("the crate lies in the repository");
-    let named = env::var("NVS_SOURCE").unwrap_or("../shared/docs/src".into());
+    let named = env::var("NVS_SOURCE")
+        .unwrap_or_else(|_| panic!("set NVS_SOURCE to the folder of the original's files, the src of esp-nvs 0.6.3"));
     let folder = root.join(named);
-    let folder = folder.canonicalize().unwrap_or_else(|_| {
-        panic!("{}: the folder of the original is not there; NVS_SOURCE names another", folder.display())
-    });
+    let folder = folder
+        .canonicalize()
+        .unwrap_or_else(|error| panic!("NVS_SOURCE names {}, which cannot be used: {error}", folder.display()));
     let mut modules = String::new();
     for name in FILES {
         let file = folder.join(name).with_extension("rs");
-        assert!(file.is_file(), "{}: this file of the original is not there", file.display());
+        assert!(file.is_file(), "NVS_SOURCE names a folder without {name}.rs of the original: {}", folder.display());
         println!("cargo:rerun-if-changed={}", file.display());
         writeln!(modules, "#[allow(dead_code, clippy::all)] #[path = {file:?}] mod {name};").unwrap();
     }
