@@ -1,20 +1,25 @@
 //! Replays a recorded file on our side alone, as RECORDED.md has it: the reference for other programs that do.
 
 use compare::case::*;
-use compare::record::Record;
+use compare::record::{ENTRIES, Record};
 
 use crate::ours::Ours;
 use crate::recorded::*;
 
-/// Why a replay ends before the file does. The program `recorded` says it in the same words.
+/// Why a replay ends before the file does. The program `recorded` says it in the same words, all but one: it hands the C functions
+/// a record as it stands, and here a list of that length has no place.
 const CUT_SHORT: &str = "the file is cut short there";
 const NO_FRAME: &str = "a frame there is of none of the kinds 0 to 6";
 const OUT_OF_BUFFER: &str = "a frame there leaves its buffer, or names none of the seven";
 const NO_CALL: &str = "a frame there names none of the calls";
 const LONG_REQUEST: &str = "a request there is for more bytes than a buffer has";
+const LONG_LIST: &str = "a record there lists more than 126 items";
 const OUT_OF_ORDER: &str = "a call and its compare do not follow each other there";
 const BEHIND: &str = "bytes follow the end frame there";
 const OTHER_NUMBER: &str = "the file ends there, and its head says another number";
+
+/// Where a record has the length of its list.
+const LIST_LENGTH: usize = 44;
 
 /// The buffers of a case as they went in, and as our side left them.
 struct Replay {
@@ -91,6 +96,9 @@ impl Replay {
 
     fn call(&mut self, call: u8) -> Result<(), &'static str> {
         let call = CALLS.get(call as usize).filter(|&&call| call != Call::Open).ok_or(NO_CALL)?;
+        if self.buffers[PAGE][LIST_LENGTH] as usize > ENTRIES {
+            return Err(LONG_LIST);
+        }
         let case = self.case(*call).ok_or(LONG_REQUEST)?;
         self.open = true;
         let mut outcome = Outcome::default();
@@ -177,6 +185,7 @@ mod tests {
         stops(1, &[frame(CALL, 12), compare, END_FRAME], 0, NO_CALL);
         stops(1, &[[FILL, 5, 33, 0, 1, 0, 17, 0], call, compare, END_FRAME], 0, LONG_REQUEST);
         stops(2, &[call, compare, [FILL, 5, 35, 0, 1, 0, 17, 0], call, compare, END_FRAME], 1, LONG_REQUEST);
+        stops(1, &[[FILL, 2, 44, 0, 1, 0, 127, 0], call, compare, END_FRAME], 0, LONG_LIST);
         stops(1, &[call, call, compare, END_FRAME], 0, OUT_OF_ORDER);
         stops(1, &[call, compare, compare, END_FRAME], 1, OUT_OF_ORDER);
         stops(1, &[call, END_FRAME], 0, OUT_OF_ORDER);
