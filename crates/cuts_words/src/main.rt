@@ -36,6 +36,7 @@ fn files() {
     on_page(b"short.bin");
     on_page(b"long.bin");
     data(b"1", b"missing.bin");
+    data(b"1", b".");
 }
 
 // Each refusal of document 01 that an opening or an append can give to words that are right.

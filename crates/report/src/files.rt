@@ -26,15 +26,22 @@ pub(crate) fn open(path: &[u8]) -> i32 {
         not_opened(path, os::errno());
         return -1;
     }
-    let mut none = [0u8; 0];
-    if libc::read(fd, &mut none) < 0 {
-        libc::close(fd);
+    fd
+}
+
+// Closes the file behind `n` bytes of it, 4,096 or all that it has: 1 where there are more, 0 where not, or -1 and why where
+// it could not be read. `io::read_full` takes a read that fails, as of a folder, for the end; the read behind it fails too, or goes on.
+pub(crate) fn close(fd: i32, path: &[u8], n: usize) -> isize {
+    let mut behind = [0u8; 1];
+    let more = libc::read(fd, &mut behind);
+    libc::close(fd);
+    if more < 0 || more > 0 && n < SECTOR_SIZE {
         text(b"cuts: ");
         word(path);
         text(b": it is no file that can be read\n");
         return -1;
     }
-    fd
+    more
 }
 
 fn not_a_sector(path: &[u8], size: usize) {
@@ -56,9 +63,10 @@ pub(crate) fn read_sector(path: &[u8], image: &mut [u8; 4096]) -> bool {
         return false;
     }
     let n = io::read_full(fd, image);
-    let mut behind = [0u8; 1];
-    let more = io::read_full(fd, &mut behind);
-    libc::close(fd);
+    let more = close(fd, path, n);
+    if more < 0 {
+        return false;
+    }
     if n < SECTOR_SIZE {
         not_a_sector(path, n);
         return false;

@@ -31,7 +31,9 @@ fn print_data(image: &[u8], key: &[u8], before: Sector, asked: Request, path: &[
     }
     let mut payload = io::buffer();
     let n = io::read_full(fd, &mut payload);
-    libc::close(fd);
+    if files::close(fd, path, n) < 0 {
+        return;
+    }
     print_item(image, key, before, asked, &payload[..n]);
 }
 
