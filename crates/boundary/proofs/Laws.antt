@@ -1,10 +1,9 @@
 -- Laws of the boundary: what is given and left where a buffer's length is wrong, and where the call behind it has answered.
 -- Assumes nothing.
-use mathlib.Core.Path.{_≡_, refl, sym, ap, ap₂, _∙_}
-use mathlib.Core.Bool.{Bool, true, false, _||_, not, cond}
+use mathlib.Core.Path.{_≡_, refl, ap, _∙_}
+use mathlib.Core.Bool.{Bool, true, false, _||_, not}
 use mathlib.Core.List.{List}
 use Prim.Native.Nat.{ℕ}
-use lib.Dec.{eqb}
 use lib.ListN.{length}
 use borrow.Author.Tests.{eq-eqb, ne-eqb}
 use Rattle.sector.specs.declared.Answer.{Answer}
@@ -12,7 +11,7 @@ use Rattle.sector.specs.declared.Statistics.{Statistics}
 use Rattle.sector.specs.Answers.{numberOf, carriedByte}
 use Rattle.page.specs.declared.Outcome.{Outcome}
 use Rattle.encoding.specs.Encoding.{wrongSize, answerBytes}
-use Rattle.boundary.specs.Boundary.{badCall, Given, given, Left, recordLeft, left}
+use Rattle.boundary.specs.Boundary.{badCall, given, recordLeft, left}
 
 -- ---- sizes
 

@@ -11,7 +11,6 @@ use lib.Seq.{take-at, drop-append-add, drop-drop, take-suc, take-all, take-suc-s
 use Rattle.page.specs.declared.Listed.{Listed}
 use Rattle.page.specs.Record.{noItem}
 use Rattle.sector.specs.declared.PageState.the-variants.{Corrupt}
-use Rattle.sector.specs.Layout.{littleEndian}
 use Rattle.sector.proofs.Laws.{over}
 use Rattle.encoding.specs.Encoding.{stateOfByte, placeBytes, placesBytes, placeOf, placesOf, placeSize}
 
@@ -68,11 +67,6 @@ parts-laid base a b c k m n la lb lc p₁ p₂ p₃ =
     let first = over-after base [] a 0 k refl la refl p₁ ∙ ap (λ (i : ℕ). a ++ drop i base) (zero-add k) in
     let laid = over-after base (a ++ b) c (k + m) n two lc (over-after base a b k m la lb first p₂) p₃ in
     ap (take (k + m + n)) laid ∙ take-at ((a ++ b) ++ c) _ (k + m + n) three ∙ append-assoc a b c
-
--- the four bytes of a word, read one after the other
-pub four-bytes : {four : List ℕ} (word : ℕ) → four ≡ littleEndian 4 word
-    → getD four 0 0 ∷ getD four 1 0 ∷ getD four 2 0 ∷ getD four 3 0 ∷ [] ≡ littleEndian 4 word
-four-bytes word h = rw h
 
 -- ---- a list made from the front
 

@@ -1,14 +1,14 @@
 -- A record and its 675 bytes give each other back, and a byte that is no state makes no record that is fit (specs/Encoding).
 -- Assumes nothing.
 use mathlib.Core.Path.{_≡_, refl, sym, ap, ap₂, _∙_}
-use mathlib.Core.Bool.{Bool, true, false, cond}
+use mathlib.Core.Bool.{Bool, true, cond}
 use mathlib.Core.List.{List, [], _∷_, _++_}
 use Prim.Native.Nat.{ℕ, zero, suc, _+_, _*_, _/_, _%_, _^_, _<_, _≤_}
 use native.Mathlib.Omega.{arith}
 use lib.ListN.{length, take, drop, getD, length-drop, take-append-drop}
 use lib.Seq.{take-at, drop-append-add, getD-append-add, drop-cons, drop-drop, length-take-le}
 use borrow.Author.Tests.{leb-true, lt-leb}
-use Rattle.flash.proofs.Laws.{Bytes, bytes-nil, bytes-cons, bytes-of-getD, getD-bytes, bytes-take, bytes-drop}
+use Rattle.flash.proofs.Laws.{Bytes, bytes-nil, bytes-cons, bytes-of-getD, bytes-take, bytes-drop}
 use Rattle.page.specs.declared.Listed.{Listed}
 use Rattle.page.specs.declared.ThinPage.{ThinPage}
 use Rattle.page.specs.Record.{noItem, fitToUse}
@@ -16,7 +16,7 @@ use Rattle.sector.specs.declared.PageState.{PageState}
 use Rattle.sector.specs.declared.PageState.the-variants.{Uninitialized, Active, Full, Freeing, Corrupt, Invalid}
 use Rattle.sector.specs.Layout.{number, littleEndian, field}
 use Rattle.sector.proofs.Laws.{number-littleEndian}
-use Rattle.encoding.specs.Encoding.{stateByte, stateOfByte, isState, placesBytes, placesOf, countBytes, recordBytes, usedOf, recordOf, NoStateIsUnfit, Holds, RecordComesBack, BytesComeBack}
+use Rattle.encoding.specs.Encoding.{stateByte, stateOfByte, isState, placesBytes, placesOf, countBytes, recordBytes, usedOf, recordOf, NoStateIsUnfit, RecordComesBack, BytesComeBack}
 
 -- ---- states
 

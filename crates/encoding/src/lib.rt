@@ -5,7 +5,7 @@ ghost use mathlib.Core.List.{_++_};
 ghost use Prim.Native.Nat.{_+_, _≤_};
 ghost use lib.ListN.{length, take, drop};
 ghost use Rattle.sector.specs.Layout.{entriesPerPage, chunks, littleEndian};
-ghost use Rattle.encoding.specs.Encoding.{stateByte, stateOfByte, isState, placeBytes, placesBytes, placeOf, placesOf, recordSize, listOffset, headBytes, countBytes, recordBytes, recordOf, answerSize, statisticsBytes, answerBytes};
+ghost use Rattle.encoding.specs.Encoding.{stateByte, stateOfByte, isState, placeBytes, placesBytes, placeOf, placesOf, recordSize, listOffset, headBytes, recordBytes, recordOf, answerSize, statisticsBytes, answerBytes};
 use page::Listed;
 use page::ThinPage;
 use sector::PageState;

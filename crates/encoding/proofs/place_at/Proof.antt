@@ -1,5 +1,4 @@
 -- `place_at` meets its contract: the bytes from the offset on are those that are read.
-use mathlib.Core.Path.{_≡_, sym, ap₂}
 use borrow.Author.Needs.{needs}
 use lib.Seq.{getD-drop}
 use Rattle.encoding.proofs.place_at.Statement.{statement}

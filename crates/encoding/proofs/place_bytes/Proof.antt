@@ -1,6 +1,5 @@
 -- `place_bytes` meets its contract: the four bytes of the hash, then the index.
 use borrow.Author.Needs.{needs}
-use Rattle.encoding.proofs.Laws.{four-bytes}
 use Rattle.encoding.proofs.place_bytes.Statement.{statement}
 use Rattle.encoding.proofs.place_bytes.Tie as tie
 

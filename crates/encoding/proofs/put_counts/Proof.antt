@@ -1,7 +1,5 @@
 -- `put_counts` meets its contract: four words lie one behind the other up to the end of the answer.
 use mathlib.Core.Path.{refl, ap, _∙_}
-use mathlib.Core.List.{List}
-use Prim.Native.Nat.{ℕ}
 use borrow.Author.Needs.{needs}
 use Rattle.sector.specs.Layout.{littleEndian}
 use Rattle.sector.proofs.Laws.{over}

@@ -1,12 +1,10 @@
 -- `put_places` meets its contract: after k turns the bytes of the first k places lie behind the rest of the record.
-use mathlib.Core.Path.{_≡_, sym, ap, _∙_}
-use mathlib.Core.List.{List}
-use Prim.Native.Nat.{ℕ, _+_, _-_, _*_, _≤_}
+use mathlib.Core.Path.{_≡_}
+use mathlib.Core.List.{_++_}
+use Prim.Native.Nat.{_+_, _-_, _*_, _≤_}
 use native.Mathlib.Omega.{arith}
 use borrow.Author.Needs.{needs}
-use lib.ListN.{length, take, drop, length-set}
-use mathlib.Core.List.{_++_}
-use Rattle.encoding.specs.Encoding.{placesBytes}
+use lib.ListN.{length, drop}
 use Rattle.encoding.proofs.Laws.{placesFront, placesFront-none, placesFront-next, placesFront-all, length-laid}
 use Rattle.encoding.proofs.put_places.Statement.{statement}
 use Rattle.encoding.proofs.put_places.Tie as tie

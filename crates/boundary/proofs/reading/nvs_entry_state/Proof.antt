@@ -1,5 +1,5 @@
 -- `nvs_entry_state` meets its contract: a wrong size changes nothing, else the call's answer is laid out.
-use mathlib.Core.Path.{refl, ap, ap₂, _∙_}
+use mathlib.Core.Path.{ap, _∙_}
 use mathlib.Core.Bool.{_||_}
 use mathlib.Core.List.{List}
 use Prim.Native.Nat.{ℕ}
@@ -7,8 +7,7 @@ use borrow.Author.Needs.{needs}
 use Rattle.sector.specs.declared.StateAnswer.{StateAnswer}
 use Rattle.sector.specs.Answers.{numberOf, carriedByte}
 use Rattle.sector.specs.Map.{bitsOf, entryState}
-use Rattle.encoding.specs.Encoding.{answerBytes}
-use Rattle.encoding.specs.Encoding.{zeroItem, noCounts, wrongSize}
+use Rattle.encoding.specs.Encoding.{answerBytes, zeroItem, noCounts, wrongSize}
 use Rattle.boundary.specs.Boundary.{badAnswer, stateGiven}
 use Rattle.boundary.proofs.Laws.{wrong-size, right-size, first-wrong, second-wrong, both-right, given-bad, given-answer}
 use Rattle.boundary.proofs.reading.nvs_entry_state.Statement.{statement}

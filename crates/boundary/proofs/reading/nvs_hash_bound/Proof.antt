@@ -1,14 +1,12 @@
 -- `nvs_hash_bound` meets its contract: a wrong size changes nothing, else the call's answer is laid out.
-use mathlib.Core.Path.{refl, ap, ap₂, _∙_}
+use mathlib.Core.Path.{ap, ap₂, _∙_}
 use mathlib.Core.Bool.{_||_}
-use mathlib.Core.List.{List}
 use Prim.Native.Nat.{ℕ}
 use borrow.Author.Needs.{needs}
 use Rattle.sector.specs.declared.Answer.the-variants.{Done}
 use Rattle.sector.specs.Layout.{chunks}
 use Rattle.bound.specs.Bound.{hashBound}
-use Rattle.encoding.specs.Encoding.{answerBytes}
-use Rattle.encoding.specs.Encoding.{zeroItem, noCounts, wrongSize}
+use Rattle.encoding.specs.Encoding.{answerBytes, zeroItem, noCounts, wrongSize}
 use Rattle.boundary.specs.Boundary.{badAnswer, boundGiven}
 use Rattle.boundary.proofs.Laws.{wrong-size, right-size, first-wrong, second-wrong, both-right, given-bad, given-answer}
 use Rattle.boundary.proofs.reading.nvs_hash_bound.Statement.{statement}

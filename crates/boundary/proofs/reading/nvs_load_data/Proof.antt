@@ -1,10 +1,9 @@
 -- `nvs_load_data` meets its contract: a wrong size changes nothing, else the call's answer is laid out.
-use mathlib.Core.Path.{refl, ap, _∙_}
-use mathlib.Core.List.{List}
+use mathlib.Core.Path.{ap, _∙_}
 use lib.ListN.{length}
 use borrow.Author.Needs.{needs}
 use Rattle.payload.specs.declared.DataLoaded.{DataLoaded}
-use Rattle.payload.specs.Payload.{dataAnswer, dataOutput}
+use Rattle.payload.specs.Payload.{dataAnswer}
 use Rattle.sector.specs.Answers.{numberOf, carriedByte}
 use Rattle.encoding.specs.Encoding.{answerBytes, zeroItem, noCounts}
 use Rattle.boundary.specs.Boundary.{badAnswer, dataGiven, dataLeft}

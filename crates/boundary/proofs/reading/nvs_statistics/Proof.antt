@@ -1,14 +1,11 @@
 -- `nvs_statistics` meets its contract: a wrong size changes nothing, else the call's answer is laid out.
-use mathlib.Core.Path.{refl, ap, ap₂, _∙_}
+use mathlib.Core.Path.{refl, ap, _∙_}
 use mathlib.Core.Bool.{_||_}
-use mathlib.Core.List.{List}
-use Prim.Native.Nat.{ℕ}
 use borrow.Author.Needs.{needs}
 use Rattle.sector.specs.declared.Answer.the-variants.{Done}
 use Rattle.sector.specs.declared.Statistics.{Statistics}
 use Rattle.sector.specs.Map.{statistics}
-use Rattle.encoding.specs.Encoding.{answerBytes}
-use Rattle.encoding.specs.Encoding.{zeroItem, noCounts, wrongSize}
+use Rattle.encoding.specs.Encoding.{answerBytes, zeroItem, wrongSize}
 use Rattle.boundary.specs.Boundary.{badAnswer, statisticsGiven}
 use Rattle.boundary.proofs.Laws.{wrong-size, right-size, first-wrong, second-wrong, both-right, given-bad, given-answer}
 use Rattle.boundary.proofs.reading.nvs_statistics.Statement.{statement}

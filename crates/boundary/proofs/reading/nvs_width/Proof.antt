@@ -1,16 +1,12 @@
 -- `nvs_width` meets its contract: a wrong size changes nothing, else the call's answer is laid out.
-use mathlib.Core.Path.{refl, ap, ap₂, _∙_}
-use mathlib.Core.Bool.{_||_}
-use mathlib.Core.List.{List}
-use Prim.Native.Nat.{ℕ}
+use mathlib.Core.Path.{ap, _∙_}
 use borrow.Author.Needs.{needs}
 use Rattle.sector.specs.declared.WidthAnswer.{WidthAnswer}
 use Rattle.sector.specs.Answers.{numberOf, carriedByte}
 use Rattle.sector.specs.Types.{primitiveWidth}
-use Rattle.encoding.specs.Encoding.{answerBytes}
-use Rattle.encoding.specs.Encoding.{zeroItem, noCounts, wrongSize}
+use Rattle.encoding.specs.Encoding.{answerBytes, zeroItem, noCounts}
 use Rattle.boundary.specs.Boundary.{badAnswer, widthGiven}
-use Rattle.boundary.proofs.Laws.{wrong-size, right-size, first-wrong, second-wrong, both-right, given-bad, given-answer}
+use Rattle.boundary.proofs.Laws.{wrong-size, right-size, given-bad, given-answer}
 use Rattle.boundary.proofs.reading.nvs_width.Statement.{statement}
 use Rattle.boundary.proofs.reading.nvs_width.Tie as tie
 

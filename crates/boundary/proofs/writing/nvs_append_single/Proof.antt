@@ -1,5 +1,5 @@
 -- `nvs_append_single` meets its contract: a wrong size changes nothing, else the call's answer is handed back with its record.
-use mathlib.Core.Path.{ap₂, ap, _∙_}
+use mathlib.Core.Path.{ap₂, _∙_}
 use mathlib.Core.Bool.{_||_}
 use mathlib.Core.List.{List}
 use Prim.Native.Nat.{ℕ}
@@ -8,7 +8,7 @@ use Rattle.append.specs.declared.Single.{Single}
 use Rattle.append.specs.Append.{appendSingle, appendSingleImage}
 use Rattle.page.specs.declared.ThinPage.{ThinPage}
 use Rattle.encoding.specs.Encoding.{recordOf, wrongSize}
-use Rattle.boundary.specs.Boundary.{badRecordSize, badKey, singleOf, variableOf, singleLeft}
+use Rattle.boundary.specs.Boundary.{badRecordSize, singleOf, singleLeft}
 use Rattle.boundary.proofs.Laws.{wrong-size, right-size, first-wrong, second-wrong, both-right, left-bad, left-outcome}
 use Rattle.boundary.proofs.writing.nvs_append_single.Statement.{statement}
 use Rattle.boundary.proofs.writing.nvs_append_single.Tie as tie

@@ -1,5 +1,5 @@
 -- `nvs_append_variable` meets its contract: a wrong size changes nothing, else the call's answer is handed back with its record.
-use mathlib.Core.Path.{ap₂, ap, _∙_}
+use mathlib.Core.Path.{ap₂, _∙_}
 use mathlib.Core.Bool.{_||_}
 use mathlib.Core.List.{List}
 use Prim.Native.Nat.{ℕ}
@@ -7,7 +7,7 @@ use borrow.Author.Needs.{needs}
 use Rattle.append.specs.Append.{appendVariable, appendVariableImage}
 use Rattle.page.specs.declared.ThinPage.{ThinPage}
 use Rattle.encoding.specs.Encoding.{recordOf, wrongSize}
-use Rattle.boundary.specs.Boundary.{badRecordSize, badKey, singleOf, variableOf, variableLeft}
+use Rattle.boundary.specs.Boundary.{badRecordSize, variableOf, variableLeft}
 use Rattle.boundary.proofs.Laws.{wrong-size, right-size, first-wrong, second-wrong, both-right, left-bad, left-outcome}
 use Rattle.boundary.proofs.writing.nvs_append_variable.Statement.{statement}
 use Rattle.boundary.proofs.writing.nvs_append_variable.Tie as tie

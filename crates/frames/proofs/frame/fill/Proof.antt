@@ -5,7 +5,7 @@ use Prim.Native.Nat.{ℕ, _+_, _-_, _<_, _≤_}
 use native.Mathlib.Omega.{arith}
 use native.Mathlib.Numerals.{add-one}
 use borrow.Author.Needs.{needs}
-use lib.ListN.{length, take, getD, set, replicate, length-set, length-replicate, getD-replicate}
+use lib.ListN.{length, take, set, replicate, length-set, length-replicate, getD-replicate}
 use lib.Seq.{paste, paste-zero, paste-suc, take-length}
 use Rattle.frames.proofs.frame.fill.Statement.{statement}
 use Rattle.frames.proofs.frame.fill.Tie as tie
