@@ -1,18 +1,16 @@
 -- The buffers of the C boundary: a record as 675 bytes, an answer as 57, little endian and with no gaps.
 --
--- In order: states; places of the list; a record's bytes; the record that bytes hold, and that no state is unfit; that the two give each other back; an answer's bytes;
--- when a buffer has a wrong size.
+-- In order: states; places of the list; a record's bytes; the record that bytes hold; an answer's bytes; when a buffer has a wrong size.
 -- A byte over 5 is no state. The record that is read then is one that is not fit to use, so that BadRecord comes in 01's place.
+-- Not here: that a record and its bytes give each other back, and that no state is unfit (`round_trip`).
 -- Assumes nothing.
-use mathlib.Core.Path.{_≡_}
-use mathlib.Core.Bool.{Bool, true, false, not, cond}
+use mathlib.Core.Bool.{Bool, not, cond}
 use mathlib.Core.List.{List, [], _∷_, _++_}
-use Prim.Native.Nat.{ℕ, zero, suc, _^_, _<_}
+use Prim.Native.Nat.{ℕ, zero, suc}
 use lib.Dec.{eqb, leb}
 use lib.ListN.{length, take, drop, getD, replicate}
 use Rattle.page.specs.declared.Listed.{Listed}
 use Rattle.page.specs.declared.ThinPage.{ThinPage}
-use Rattle.page.specs.Record.{noItem, fitToUse}
 use Rattle.sector.specs.declared.PageState.{PageState}
 use Rattle.sector.specs.declared.PageState.the-variants.{Uninitialized, Active, Full, Freeing, Corrupt, Invalid}
 use Rattle.sector.specs.declared.Statistics.{Statistics}
@@ -97,30 +95,6 @@ recordOf bytes =
       len = getD bytes 44 0;
       list = placesOf entriesPerPage (drop listOffset bytes);
     }
-
--- a byte that is no state makes a record that is not fit to use, whatever the other bytes are
-abbrev pub NoStateIsUnfit : Type 0
-NoStateIsUnfit = (bytes : List ℕ) → isState (getD bytes 0 0) ≡ false → fitToUse (recordOf bytes) ≡ false
-
--- ---- the round trip
-
--- what the fields of a record in memory have room for
-pub record Holds (page : ThinPage) : Type 0 where
-  pub sequence : page .sequence < 2 ^ 32
-  pub crc : page .crc < 2 ^ 32
-  pub map : length (page .map) ≡ 32
-  pub list : length (page .list) ≡ entriesPerPage
-  pub hashes : (i : ℕ) → getD (page .list) i noItem .hash < 2 ^ 32
-
--- a record comes back from its bytes
-abbrev pub RecordComesBack : Type 0
-RecordComesBack = (page : ThinPage) → Holds page → recordOf (recordBytes page) ≡ page
-
--- 675 bytes, of which the first is a state, come back from the record that they hold
-abbrev pub BytesComeBack : Type 0
-BytesComeBack =
-    (bytes : List ℕ) → length bytes ≡ recordSize → ((i : ℕ) → getD bytes i 0 < 256) → isState (getD bytes 0 0) ≡ true
-    → recordBytes (recordOf bytes) ≡ bytes
 
 -- ---- an answer's bytes
 

@@ -1,4 +1,4 @@
--- A record and its 675 bytes give each other back, and a byte that is no state makes no record that is fit (specs/Encoding).
+-- A record and its 675 bytes give each other back, and a byte that is no state makes no record that is fit (specs/RoundTrip).
 -- Assumes nothing.
 use mathlib.Core.Path.{_≡_, refl, sym, ap, ap₂, _∙_}
 use mathlib.Core.Bool.{Bool, true, cond}
@@ -16,7 +16,8 @@ use Rattle.sector.specs.declared.PageState.{PageState}
 use Rattle.sector.specs.declared.PageState.the-variants.{Uninitialized, Active, Full, Freeing, Corrupt, Invalid}
 use Rattle.sector.specs.Layout.{number, littleEndian, field}
 use Rattle.sector.proofs.Laws.{number-littleEndian}
-use Rattle.encoding.specs.Encoding.{stateByte, stateOfByte, isState, placesBytes, placesOf, countBytes, recordBytes, usedOf, recordOf, NoStateIsUnfit, RecordComesBack, BytesComeBack}
+use Rattle.encoding.specs.Encoding.{stateByte, stateOfByte, isState, placesBytes, placesOf, countBytes, recordBytes, usedOf, recordOf}
+use Rattle.round_trip.specs.RoundTrip.{RecordComesBack, BytesComeBack, NoStateIsUnfit}
 
 -- ---- states
 
