@@ -23,7 +23,7 @@ use Rattle.append.specs.Append.{namespaceItem, appendSingle, appendSingleImage,
 use Rattle.bound.specs.Bound.{hashBound}
 use Rattle.copy.specs.Copy.{copyIn, copyInImage}
 use Rattle.erase.specs.Erase.{erase, eraseImage}
-use Rattle.purge.specs.Purge.{purgeNamespace, purgeNamespaceImage}
+use Rattle.purge_namespace.specs.PurgeNamespace.{purgeNamespace, purgeNamespaceImage}
 use Rattle.header.specs.Calls.{initialise, initialiseImage, markFull, markFullImage}
 use Rattle.load.specs.Load.{rawEntry, loadItem}
 use Rattle.payload.specs.Payload.{dataAnswer, dataOutput}

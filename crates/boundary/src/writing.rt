@@ -244,6 +244,6 @@ pub extern "C" fn nvs_purge_namespace(image: &mut [u8], buffer: &mut [u8], names
         return BAD_CALL;
     }
     let page = encoding::record_of(&buffer[..]);
-    let outcome = purge::purge_erased_for_namespace(image, page, namespace);
+    let outcome = purge_namespace::purge_erased_for_namespace(image, page, namespace);
     hand_back(buffer, outcome)
 }

@@ -24,7 +24,7 @@ use Rattle.header.specs.Calls.{initialise, initialiseImage, markFull, markFullI
 use Rattle.append.specs.Append.{appendSingle, appendSingleImage, appendVariable, appendVariableImage}
 use Rattle.copy.specs.Copy.{copyIn, copyInImage}
 use Rattle.erase.specs.Erase.{erase, eraseImage}
-use Rattle.purge.specs.Purge.{purgeNamespace, purgeNamespaceImage}
+use Rattle.purge_namespace.specs.PurgeNamespace.{purgeNamespace, purgeNamespaceImage}
 use Rattle.promises.specs.Promises.{single, variable, copied, Call, initialising, markingFull, putting, erasing, purging, checksOf, planOf, newOf, outcomeOf, imageOf, isRefusal, spanOfNew, earlierChecks}
 
 -- ---- checks

@@ -29,7 +29,8 @@ use Rattle.header.specs.Calls.{initialisePlan, markFullPlan}
 use Rattle.append.specs.Append.{singleBytes, singlePlan, spanFor, variableHeader, variablePlan}
 use Rattle.copy.specs.Copy.{copiedBytes, copyPlan}
 use Rattle.erase.specs.Erase.{erasePlan}
-use Rattle.purge.specs.Purge.{heldSpan, purgePlan, purgeImage, toZero, zeroUnits, purgeNamespacePlan}
+use Rattle.purge.specs.Purge.{heldSpan, purgePlan, purgeImage}
+use Rattle.purge_namespace.specs.PurgeNamespace.{toZero, zeroUnits, purgeNamespacePlan}
 use Rattle.promises.specs.Promises.{NewItem, single, variable, copied, initialising, markingFull, putting, erasing, purging, formed, spanOfNew, Write, rises, inOrder, marking, entryUnits, itemWrites, zeroWrites, joined, WritesInOrder, outside, PurgeInOrder, PurgesItsEntries, PurgesNothingPast}
 
 -- ---- units that rise

@@ -30,7 +30,8 @@ use Rattle.append.specs.declared.Variable.{Variable}
 use Rattle.append.specs.Append.{singleRequest, singleChecks, singleBytes, singlePlan, withSingle, appendSingle, appendSingleImage, spanFor, variableRequest, variableChecks, variableHeader, variablePlan, withVariable, appendVariable, appendVariableImage}
 use Rattle.copy.specs.Copy.{copyChecks, copiedBytes, copyPlan, withCopy, copyIn, copyInImage}
 use Rattle.erase.specs.Erase.{eraseChecks, erasePlan, erase, eraseImage}
-use Rattle.purge.specs.Purge.{heldSpan, purgePlan, purge, purgeImage, toZero, purgeNamespaceChecks, purgeNamespacePlan, purgeNamespace, purgeNamespaceImage}
+use Rattle.purge.specs.Purge.{heldSpan, purgePlan, purge, purgeImage}
+use Rattle.purge_namespace.specs.PurgeNamespace.{toZero, purgeNamespaceChecks, purgeNamespacePlan, purgeNamespace, purgeNamespaceImage}
 
 -- ---- the calls
 

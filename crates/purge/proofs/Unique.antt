@@ -4,11 +4,6 @@ use denote.Ref.{now}
 use Rattle.sector.proofs.Unique.{OneOutcome, unique}
 use Rattle.purge.proofs.purge_entries.Kinds as purge-entries-kinds
 use Rattle.purge.proofs.purge_entries.Reads as purge-entries
-use Rattle.purge.proofs.purge_erased_for_namespace.Kinds as purge-erased-for-namespace-kinds
-use Rattle.purge.proofs.purge_erased_for_namespace.Reads as purge-erased-for-namespace
 
 pub purge-entries-unique : OneOutcome 1 purge-entries-kinds.ps purge-entries-kinds.r (λ κs ex. now (ex .0)) purge-entries.Learnt
 purge-entries-unique κs args x y ex ey p q = (unique (p .0) (q .0), unique (p .1) (q .1))
-
-pub purge-erased-for-namespace-unique : OneOutcome 1 purge-erased-for-namespace-kinds.ps purge-erased-for-namespace-kinds.r (λ κs ex. now (ex .0)) purge-erased-for-namespace.Learnt
-purge-erased-for-namespace-unique κs args x y ex ey p q = (unique (p .0) (q .0), unique (p .1) (q .1))

@@ -106,7 +106,11 @@ fn copy_in(
 fn run_whole(image: &mut [u8], page: ThinPage, call: Call) -> Outcome {
     match call {
         Call::Erase { index, span } => erase::erase_item(image, page, index, span),
-        Call::Purge { namespace } => purge::purge_erased_for_namespace(image, page, namespace),
+        Call::Purge { namespace } => purge_namespace::purge_erased_for_namespace(
+            image,
+            page,
+            namespace,
+        ),
         _ => header::mark_as_full(image, page),
     }
 }

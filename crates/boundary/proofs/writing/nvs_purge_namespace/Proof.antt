@@ -1,7 +1,7 @@
 -- `nvs_purge_namespace` meets its contract: a wrong size changes nothing, else the call's answer is handed back with its record.
 use mathlib.Core.Path.{ap, _∙_}
 use borrow.Author.Needs.{needs}
-use Rattle.purge.specs.Purge.{purgeNamespace, purgeNamespaceImage}
+use Rattle.purge_namespace.specs.PurgeNamespace.{purgeNamespace, purgeNamespaceImage}
 use Rattle.page.specs.declared.ThinPage.{ThinPage}
 use Rattle.encoding.specs.Encoding.{recordOf}
 use Rattle.boundary.specs.Boundary.{badRecordSize, purgeNamespaceLeft}

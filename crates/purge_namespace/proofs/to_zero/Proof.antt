@@ -1,4 +1,4 @@
--- `purge::to_zero` meets its contract: the marks of the entries passed, and those of the walk from i on, are those of the whole walk.
+-- `purge_namespace::to_zero` meets its contract: the marks of the entries passed, and those of the walk from i on, are those of the whole walk.
 use mathlib.Core.Path.{_≡_, sym, ap, ap₂, _∙_}
 use mathlib.Core.Bool.{Bool, false}
 use mathlib.Core.List.{List, _∷_, _++_, append-nil}
@@ -10,11 +10,11 @@ use lib.ListN.{length, take, drop, length-set}
 use lib.Seq.{take-all}
 use Rattle.sector.specs.Layout.{entriesOf}
 use Rattle.sector.specs.Map.{statesOf}
-use Rattle.purge.specs.Purge.{purged, passed, toZero}
-use Rattle.purge.specs.declared.Step.{Step}
-use Rattle.purge.proofs.Laws.{toZero-passed, toZero-header, toZero-past, marks-next}
-use Rattle.purge.proofs.to_zero.Statement.{statement}
-use Rattle.purge.proofs.to_zero.Tie as tie
+use Rattle.purge_namespace.specs.PurgeNamespace.{purged, passed, toZero}
+use Rattle.purge_namespace.specs.declared.Step.{Step}
+use Rattle.purge_namespace.proofs.Laws.{toZero-passed, toZero-header, toZero-past, marks-next}
+use Rattle.purge_namespace.proofs.to_zero.Statement.{statement}
+use Rattle.purge_namespace.proofs.to_zero.Tie as tie
 
 -- the walk from an entry on
 abbrev walk : List ℕ → List ℕ → ℕ → Step → ℕ → List Bool

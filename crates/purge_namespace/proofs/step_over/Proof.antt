@@ -1,9 +1,9 @@
--- `purge::step_over` meets its contract: where the entry loads the span decides, and else nothing is passed.
+-- `purge_namespace::step_over` meets its contract: where the entry loads the span decides, and else nothing is passed.
 use mathlib.Core.Path.{refl, sym, _∙_}
 use borrow.Author.Needs.{needs}
 use borrow.Author.Tests.{not-true, not-false}
-use Rattle.purge.proofs.step_over.Statement.{statement}
-use Rattle.purge.proofs.step_over.Tie as tie
+use Rattle.purge_namespace.proofs.step_over.Statement.{statement}
+use Rattle.purge_namespace.proofs.step_over.Tie as tie
 
 loads-requires : tie.Need-loads-requires
 loads-requires c κs = search needs

@@ -1,13 +1,13 @@
--- `purge::purge_erased_for_namespace` meets its contract: each `return` is the first check that refuses, or the marked entries are zeroed.
+-- `purge_namespace::purge_erased_for_namespace` meets its contract: each `return` is the first check that refuses, or the marked entries are zeroed.
 use mathlib.Core.Path.{refl, sym, ap, _∙_}
 use mathlib.Core.Bool.{Bool}
 use mathlib.Core.List.{List}
 use borrow.Author.Needs.{needs}
 use borrow.Author.Tests.{eq-eqb, ne-eqb, not-true, not-false}
 use Rattle.flash.specs.Flash.{run}
-use Rattle.purge.specs.Purge.{zeroUnits, purgeNamespacePlan, purgeNamespace, purgeNamespaceImage}
-use Rattle.purge.proofs.purge_erased_for_namespace.Statement.{statement}
-use Rattle.purge.proofs.purge_erased_for_namespace.Tie as tie
+use Rattle.purge_namespace.specs.PurgeNamespace.{zeroUnits, purgeNamespacePlan, purgeNamespace, purgeNamespaceImage}
+use Rattle.purge_namespace.proofs.purge_erased_for_namespace.Statement.{statement}
+use Rattle.purge_namespace.proofs.purge_erased_for_namespace.Tie as tie
 
 returns : tie.Need-returns
 unfolding purgeNamespace purgeNamespaceImage

@@ -1,10 +1,10 @@
--- `purge::step_at` meets its contract: state by state, as `purged` and `passed` go.
+-- `purge_namespace::step_at` meets its contract: state by state, as `purged` and `passed` go.
 use mathlib.Core.Path.{_∙_}
 use mathlib.Core.Bool.{and-false}
 use borrow.Author.Needs.{needs}
 use Rattle.sector.specs.Item.{loads}
-use Rattle.purge.proofs.step_at.Statement.{statement}
-use Rattle.purge.proofs.step_at.Tie as tie
+use Rattle.purge_namespace.proofs.step_at.Statement.{statement}
+use Rattle.purge_namespace.proofs.step_at.Tie as tie
 
 enum-told : tie.Need-enum-told
 enum-told c = search needs

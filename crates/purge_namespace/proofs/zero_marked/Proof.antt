@@ -1,4 +1,4 @@
--- `purge::zero_marked` meets its contract: the marks from i on, zeroed in what there is, are all of them zeroed in the image.
+-- `purge_namespace::zero_marked` meets its contract: the marks from i on, zeroed in what there is, are all of them zeroed in the image.
 use mathlib.Core.Path.{_≡_, sym, ap, _∙_}
 use mathlib.Core.Bool.{Bool, false, cond}
 use mathlib.Core.List.{List, []}
@@ -10,10 +10,10 @@ use lib.ListN.{length, drop, getD, replicate, drop-of-length-le}
 use Rattle.flash.specs.Flash.{units, run}
 use Rattle.flash.proofs.Laws.{length-run}
 use Rattle.sector.specs.Layout.{sectorSize, entrySize, entryAddress}
-use Rattle.purge.specs.Purge.{zeroUnits}
-use Rattle.purge.proofs.Laws.{run-marked}
-use Rattle.purge.proofs.zero_marked.Statement.{statement}
-use Rattle.purge.proofs.zero_marked.Tie as tie
+use Rattle.purge_namespace.specs.PurgeNamespace.{zeroUnits}
+use Rattle.purge_namespace.proofs.Laws.{run-marked}
+use Rattle.purge_namespace.proofs.zero_marked.Statement.{statement}
+use Rattle.purge_namespace.proofs.zero_marked.Tie as tie
 
 abbrev Inv-loop : tie.InvT-loop
 Inv-loop image₀ marks i₀ image i =
