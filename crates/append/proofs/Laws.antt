@@ -1,28 +1,21 @@
 -- Laws of appends: the checks that they share, what accepted checks tell, and how many units they have.
 -- Assumes nothing.
-use mathlib.Core.Path.{_≡_, _∙_}
-use mathlib.Core.Bool.{true, cond}
-use mathlib.Core.List.{List, [], _∷_, _++_}
+use mathlib.Core.Path.{_≡_}
+use mathlib.Core.Bool.{true}
+use mathlib.Core.List.{List, [], _∷_}
 use Prim.Native.Nat.{ℕ, _+_, _≤_}
 use native.Mathlib.Omega.{arith}
-use lib.Dec.{eqb}
 use lib.ListN.{length, length-append}
-use Rattle.flash.specs.Flash.{units}
-use Rattle.flash.proofs.Laws.{length-units-whole}
 use Rattle.page.specs.declared.ThinPage.{ThinPage}
 use Rattle.page.specs.Record.{nextFree, fitToUse}
-use Rattle.page.specs.Writing.{badImage, badRecord, notActive, overFree, fullUnits, itemPlan}
+use Rattle.page.specs.Writing.{badImage, badRecord, notActive, overFree}
 use Rattle.page.proofs.Checks.{accepted-tail, accepted-room, accepted-usable}
-use Rattle.page.proofs.Plans.{length-map-units, length-full-units}
 use Rattle.sector.specs.declared.Answer.the-variants.{BadRequest}
-use Rattle.sector.specs.declared.EntryMapState.the-variants.{Written}
 use Rattle.sector.specs.Answers.{Check, accepted}
 use Rattle.sector.specs.Item.{itemBytes}
-use Rattle.sector.specs.Layout.{sectorSize, entriesPerPage, entryAddress}
-use Rattle.sector.specs.Map.{markRange, mapUnits}
-use Rattle.sector.proofs.Laws.{length-markRange}
+use Rattle.sector.specs.Layout.{sectorSize, entriesPerPage}
 use Rattle.append.specs.declared.Single.{Single}
-use Rattle.append.specs.Append.{singleRequest, singleChecks, singleBytes, singlePlan}
+use Rattle.append.specs.Append.{singleRequest, singleChecks}
 
 -- ---- checks
 
@@ -49,20 +42,3 @@ pub length-itemBytes : (namespace type span chunk : ℕ) (key bytes : List ℕ) 
     → length (itemBytes namespace type span chunk key bytes) ≡ 32
 unfolding itemBytes
 length-itemBytes namespace type span chunk key bytes k b = omega (arith, length-append key bytes)
-
--- a single is nine units, and ten where it fills the page
-pub length-singlePlan : (page : ThinPage) (item : Single) → length (page .map) ≡ 32 → length (item .key) ≡ 16 → length (item .bytes) ≡ 8
-    → nextFree page + 1 ≤ 126 → length (singlePlan page item) ≡ 9 + cond (eqb (nextFree page + 1) entriesPerPage) 1 0
-unfolding singlePlan itemPlan
-length-singlePlan page item m k b room =
-    let start = nextFree page in
-    let map = markRange Written start 1 (page .map) in
-    let entry = units (entryAddress start) (singleBytes item) in
-    omega (
-      arith,
-      length-append entry (mapUnits start 1 map ++ fullUnits (start + 1)),
-      length-append (mapUnits start 1 map) (fullUnits (start + 1)),
-      length-units-whole (entryAddress start) 8 (singleBytes item) (length-itemBytes (item .namespace) (item .kind) 1 (item .chunk) (item .key) (item .bytes) k b),
-      length-map-units start 1 map (length-markRange Written start 1 (page .map) ∙ m) (omega arith) room,
-      length-full-units (start + 1),
-    )

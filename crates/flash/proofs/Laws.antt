@@ -8,7 +8,7 @@ use mathlib.Core.Bool.{Bool, true, false, _&&_, cond, false≢true, and-eq-true-
 use mathlib.Core.List.{List, [], _∷_, _++_, append-assoc}
 use mathlib.Core.Logic.{_⊎_, inl, inr}
 use Prim.Native.Nat.{ℕ, zero, suc, _≤_, _<_, _+_, _-_, _*_, _/_, _%_, min, zero-le, suc-le-suc}
-use native.Mathlib.Nat.{le-of-suc-le-suc, lt-of-le-of-lt, mod-eq-of-lt, zero-add, suc-add, add-zero, sub-zero, not-suc-le-zero}
+use native.Mathlib.Nat.{le-of-suc-le-suc, lt-of-le-of-lt, mod-eq-of-lt, zero-add, suc-add, add-zero, sub-zero}
 use native.Mathlib.Omega.{arith}
 use lib.Arith.{bin-ind}
 use lib.Bits.{bitAnd, and-mask, and-le-l, and-le-r, and-comm, and-self, and-step}
@@ -36,11 +36,6 @@ pub data Bytes : List ℕ → Type 0 where
 pub bytes-of-getD : (bytes : List ℕ) → ((i : ℕ) → i < length bytes → getD bytes i 0 < 256) → Bytes bytes
 bytes-of-getD [] h = bytes-nil
 bytes-of-getD (byte ∷ bytes) h = bytes-cons (h zero (suc-le-suc zero-le)) (bytes-of-getD bytes (λ i l. h (suc i) (suc-le-suc l)))
-
-pub getD-bytes : {bytes : List ℕ} → Bytes bytes → (i : ℕ) → getD bytes i 0 < 256
-getD-bytes bytes-nil i = omega arith
-getD-bytes (bytes-cons h b) zero = h
-getD-bytes (bytes-cons h b) (suc i) = getD-bytes b i
 
 pub bytes-append : {xs ys : List ℕ} → Bytes xs → Bytes ys → Bytes (xs ++ ys)
 bytes-append bytes-nil b = b
@@ -74,15 +69,6 @@ every-drop test xs i d h = ap (every test) (drop-cons xs i d h)
 -- a loop's end
 pub every-past : {A : Type 0} (test : A → Bool) (xs : List A) (i : ℕ) → length xs ≤ i → every test (drop i xs) ≡ true
 every-past test xs i h = ap (every test) (drop-of-length-le xs h)
-
-pub every-getD : {A : Type 0} (test : A → Bool) (xs : List A) (i : ℕ) (d : A) → every test xs ≡ true → i < length xs → test (getD xs i d) ≡ true
-every-getD test [] i d e h = absurd (not-suc-le-zero h)
-every-getD test (x ∷ xs) zero d e h = and-eq-true-iff (test x) (every test xs) .0 e .0
-every-getD test (x ∷ xs) (suc i) d e h = every-getD test xs i d (and-eq-true-iff (test x) (every test xs) .0 e .1) (le-of-suc-le-suc h)
-
-pub all-ones-append : (xs ys : List ℕ) → allOnes (xs ++ ys) ≡ (allOnes xs && allOnes ys)
-unfolding allOnes
-all-ones-append xs ys = every-append isOnes xs ys
 
 pub all-ones-drop : (bytes : List ℕ) (i : ℕ) → i < length bytes → allOnes (drop i bytes) ≡ (isOnes (getD bytes i 0) && allOnes (drop (suc i) bytes))
 unfolding allOnes
@@ -254,10 +240,6 @@ pub clears-trans : {xs ys zs : List ℕ} → OnlyClears xs ys → OnlyClears ys 
 clears-trans clears-nil clears-nil = clears-nil
 clears-trans (clears-cons {y = x} {x = y} e o) (clears-cons {x = z} f p) =
     clears-cons (ap (bitAnd x) (sym f) ∙ sym (bit-and-assoc x y z) ∙ ap (λ (n : ℕ). bitAnd n z) e ∙ f) (clears-trans o p)
-
-pub clears-append : {xs ys vs ws : List ℕ} → OnlyClears xs ys → OnlyClears vs ws → OnlyClears (xs ++ vs) (ys ++ ws)
-clears-append clears-nil p = p
-clears-append (clears-cons e o) p = clears-cons e (clears-append o p)
 
 -- erased bytes: every byte only clears bits of 0xFF
 pub clears-ones : {bytes : List ℕ} → Bytes bytes → OnlyClears (replicate (length bytes) 0xFF) bytes
@@ -503,13 +485,6 @@ unfolding run
 take-run image within-nil = refl
 take-run {from} image (within-cons address bytes h g w) =
     take-run (program image address bytes) w ∙ take-program from image address bytes h
-
--- what lies behind all of them
-pub drop-run : {from to : ℕ} {plan : List Unit4} (image : List ℕ) → Within from to plan → drop to (run plan image) ≡ drop to image
-unfolding run
-drop-run image within-nil = refl
-drop-run {to = to} image (within-cons address bytes h g w) =
-    drop-run (program image address bytes) w ∙ drop-program to image address bytes g
 
 -- a front that they do not reach
 pub run-past : {to : ℕ} {plan : List Unit4} (front rest : List ℕ) → Within (length front) to plan

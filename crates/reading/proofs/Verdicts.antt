@@ -17,7 +17,7 @@ use Rattle.sector.specs.declared.EntryMapState.{EntryMapState}
 use Rattle.sector.specs.declared.EntryMapState.the-variants.{Written}
 use Rattle.sector.specs.Item.{crcRight, loads}
 use Rattle.sector.specs.Layout.{spanOf}
-use Rattle.reading.specs.Reading.{Reason, AllOnes, CrcWrong, SpanOffPage, WrongSpan, CoveredNotUsable, firstRule, covered, wrongSpan, headerRefusal, payloadRefusal, usable, RefusedEntry, RefusedItem, Kept, itemVerdict, verdictAt}
+use Rattle.reading.specs.Reading.{Reason, AllOnes, CrcWrong, SpanOffPage, WrongSpan, CoveredNotUsable, firstRule, covered, wrongSpan, headerRefusal, payloadRefusal, usable, RefusedItem, Kept, itemVerdict, verdictAt}
 
 -- the states of some entries, and their bytes
 abbrev pub States : Type 0
@@ -135,10 +135,6 @@ decided entry states entries = by-header (headerRefusal entry (length entries)) 
     by-header (some reason) h = refusedEntry reason h
 
 -- ---- the verdict in each
-
-pub verdict-refusedEntry : {reason : Reason} (entry : List ℕ) (states : States) (entries : Entries)
-    → headerRefusal entry (length entries) ≡ some reason → verdictAt Written entry states entries ≡ RefusedEntry reason
-verdict-refusedEntry entry states entries h = rw h
 
 pub verdict-refusedItem : {reason : Reason} {entry : List ℕ} {k : ℕ} {states : States} {entries : Entries}
     → Spoiled reason entry k states entries → verdictAt Written entry states entries ≡ RefusedItem reason k

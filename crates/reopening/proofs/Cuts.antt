@@ -1,10 +1,10 @@
 -- A power cut while an item is written behind a closed front: as long as all marks behind the front are Empty the item is absent, and once its
 -- header is marked it is there, whole.
 --
--- In order: Empty entries with any bytes; an item whose covered entries are marked in part. Each: what is kept, and what opening leaves.
+-- In order: Empty entries with any bytes, and what opening leaves of blank ones; an item whose covered entries are marked in part; the cut.
 -- Nothing here speaks of the units that the marks are programmed in. Assumes nothing.
 use mathlib.Core.Path.{_≡_, refl, sym, ap}
-use mathlib.Core.Bool.{true, false, and-eq-true-iff, and-false}
+use mathlib.Core.Bool.{true, and-eq-true-iff}
 use mathlib.Core.List.{List, [], _∷_, _++_, append-nil}
 use Prim.Native.Nat.{ℕ, zero, suc, _+_}
 use native.Mathlib.Nat.{suc-inj, suc-ne-zero, add-zero, zero-add, add-suc, suc-add}
@@ -15,7 +15,6 @@ use Rattle.sector.specs.declared.EntryMapState.{EntryMapState}
 use Rattle.sector.specs.declared.EntryMapState.the-variants.{Empty, Written, Erased}
 use Rattle.reading.specs.Reading.{isUsable, usable, walk, Item, item, keptFrom, isFreeTail, shutBeforeTail, openedStates}
 use Rattle.reading.proofs.Verdicts.{States, Entries, Whole, whole-append, Good, verdict-keptItem}
-use Rattle.reading.proofs.Midway.{walk-zero}
 use Rattle.reopening.proofs.Closed.{Closed, keptFrom-closed, openedStates-closed}
 
 -- ---- Empty entries, whatever their bytes
@@ -49,24 +48,6 @@ pub openedStates-blanks : (blanks : Entries) → every allOnes blanks ≡ true
 unfolding openedStates
 openedStates-blanks blanks e = rw (walk-empties (length blanks) Erased blanks) (shutBeforeTail-blanks blanks e)
 
-module _ (entry : List ℕ) (blanks : Entries) (used : allOnes entry ≡ false) where
-  isFreeTail-used : (more : Entries) → isFreeTail (replicate (length (more ++ entry ∷ blanks)) Empty) (more ++ entry ∷ blanks) ≡ false
-  isFreeTail-used [] = rw used
-  isFreeTail-used (other ∷ more) = rw (isFreeTail-used more, and-false)
-
-  shutBeforeTail-used : (more : Entries) → every allOnes blanks ≡ true
-      → shutBeforeTail (replicate (length (more ++ entry ∷ blanks)) Empty) (more ++ entry ∷ blanks)
-      ≡ replicate (suc (length more)) Erased ++ replicate (length blanks) Empty
-  shutBeforeTail-used [] e = rw used (ap (λ (states : States). Erased ∷ states) (shutBeforeTail-blanks blanks e))
-  shutBeforeTail-used (other ∷ more) e = rw (isFreeTail-used more, and-false) (ap (λ (states : States). Erased ∷ states) (shutBeforeTail-used more e))
-
-  -- up to the last entry that is not all 0xFF they become Erased
-  pub openedStates-used : (more : Entries) → every allOnes blanks ≡ true
-      → openedStates (replicate (length (more ++ entry ∷ blanks)) Empty) (more ++ entry ∷ blanks)
-      ≡ replicate (suc (length more)) Erased ++ replicate (length blanks) Empty
-  unfolding openedStates
-  openedStates-used more e = rw (walk-empties (length (more ++ entry ∷ blanks)) Erased (more ++ entry ∷ blanks)) (shutBeforeTail-used more e)
-
 -- ---- an item whose covered entries are marked in part
 
 usable-mixed : (mixed rest : States) → every isUsable mixed ≡ true → usable (length mixed) (mixed ++ rest) ≡ true
@@ -74,24 +55,12 @@ usable-mixed [] rest e = refl
 usable-mixed (s ∷ mixed) rest e =
     let parts = and-eq-true-iff (isUsable s) (every isUsable mixed) .0 e in rw (parts .0) (usable-mixed mixed rest (parts .1))
 
-walk-mixed : (mixed rest : States) (new others : Entries) → length mixed ≡ length new
-    → walk (length new) Written (mixed ++ rest) (new ++ others) ≡ replicate (length new) Written ++ walk zero Erased rest others
-walk-mixed [] rest [] others l = walk-zero Written Erased rest others
-walk-mixed [] rest (entry ∷ new) others l = absurd (suc-ne-zero (length new) (sym l))
-walk-mixed (s ∷ mixed) rest [] others l = absurd (suc-ne-zero (length mixed) l)
-walk-mixed (s ∷ mixed) rest (entry ∷ new) others l = ap (λ (states : States). Written ∷ states) (walk-mixed mixed rest new others (suc-inj l))
-
 keptFrom-mixed : (i : ℕ) (mixed rest : States) (new others : Entries) → length mixed ≡ length new
     → keptFrom (length new) i (mixed ++ rest) (new ++ others) ≡ keptFrom zero (i + length new) rest others
 keptFrom-mixed i [] rest [] others l = rw add-zero
 keptFrom-mixed i [] rest (entry ∷ new) others l = absurd (suc-ne-zero (length new) (sym l))
 keptFrom-mixed i (s ∷ mixed) rest [] others l = absurd (suc-ne-zero (length mixed) l)
 keptFrom-mixed i (s ∷ mixed) rest (entry ∷ new) others l = rw (add-suc, ← suc-add i (length new)) (keptFrom-mixed (suc i) mixed rest new others (suc-inj l))
-
-shutBeforeTail-written : (rest : States) (new others : Entries)
-    → shutBeforeTail (replicate (length new) Written ++ rest) (new ++ others) ≡ replicate (length new) Written ++ shutBeforeTail rest others
-shutBeforeTail-written rest [] others = refl
-shutBeforeTail-written rest (entry ∷ new) others = ap (λ (states : States). Written ∷ states) (shutBeforeTail-written rest new others)
 
 -- a whole item at a Written header; some of the entries that it covers are Written and some still Empty
 pub record Marking (entry : List ℕ) (mixed : States) (new : Entries) : Type 0 where
@@ -110,13 +79,6 @@ module _ {entry : List ℕ} {mixed : States} {new : Entries} (m : Marking entry 
       rw (verdict-keptItem good-mixed, take-at new others (length new) refl)
       (ap (λ (items : List Item). item i (entry ∷ new) ∷ items) (keptFrom-mixed (suc i) mixed rest new others (m .covers)))
 
-  -- and opening marks all of it
-  pub openedStates-marking : openedStates (Written ∷ mixed ++ rest) (entry ∷ new ++ others) ≡ replicate (suc (length new)) Written ++ openedStates rest others
-  unfolding openedStates
-  openedStates-marking =
-      rw (verdict-keptItem good-mixed, walk-mixed mixed rest new others (m .covers))
-      (ap (λ (states : States). Written ∷ states) (shutBeforeTail-written (walk zero Erased rest others) new others))
-
 -- ---- the cut, behind a closed front
 
 module _ {front : States} {bytes : Entries} (c : Closed zero front bytes) where
@@ -130,16 +92,6 @@ module _ {front : States} {bytes : Entries} (c : Closed zero front bytes) where
       → openedStates (front ++ replicate (length blanks) Empty) (bytes ++ blanks) ≡ front ++ replicate (length blanks) Empty
   openedStates-unmarked-blank blanks e = rw (openedStates-closed (replicate (length blanks) Empty) blanks c, openedStates-blanks blanks e)
 
-  -- and closes it behind the last entry that is not all 0xFF
-  pub openedStates-unmarked : (more : Entries) (entry : List ℕ) (blanks : Entries) → allOnes entry ≡ false → every allOnes blanks ≡ true
-      → openedStates (front ++ replicate (length (more ++ entry ∷ blanks)) Empty) (bytes ++ (more ++ entry ∷ blanks))
-      ≡ front ++ (replicate (suc (length more)) Erased ++ replicate (length blanks) Empty)
-  openedStates-unmarked more entry blanks used e =
-      rw (
-        openedStates-closed (replicate (length (more ++ entry ∷ blanks)) Empty) (more ++ entry ∷ blanks) c,
-        openedStates-used entry blanks used more e,
-      )
-
   module _ {mixed : States} {entry : List ℕ} {new : Entries} (m : Marking entry mixed new) where
     -- from the header's mark on: the items of the front, and the new one, whole
     pub kept-marked : (n : ℕ) (any : Entries)
@@ -151,15 +103,4 @@ module _ {front : States} {bytes : Entries} (c : Closed zero front bytes) where
           zero-add,
           kept-marking m (replicate n Empty) any (length front),
           keptFrom-empties n (suc (length front) + length new) any,
-        )
-
-    -- and opening leaves the states that the whole call leaves
-    pub openedStates-marked : (blanks : Entries) → every allOnes blanks ≡ true
-        → openedStates (front ++ (Written ∷ mixed ++ replicate (length blanks) Empty)) (bytes ++ (entry ∷ new ++ blanks))
-        ≡ front ++ (replicate (suc (length new)) Written ++ replicate (length blanks) Empty)
-    openedStates-marked blanks e =
-        rw (
-          openedStates-closed (Written ∷ mixed ++ replicate (length blanks) Empty) (entry ∷ new ++ blanks) c,
-          openedStates-marking m (replicate (length blanks) Empty) blanks,
-          openedStates-blanks blanks e,
         )

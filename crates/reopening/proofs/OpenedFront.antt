@@ -19,7 +19,7 @@ use Rattle.reopening.proofs.Course.{Course, ends, meetsEmpty, meetsEras
 use Rattle.reading.proofs.Midway.{walk-zero}
 use Rattle.reopening.proofs.Reopened.{openedFrom, again, length-openedStates}
 use Rattle.reopening.proofs.Closed.{Closed, closed-nil, closed-erased, closed-header, closed-covered, closed-fits, length-closed}
-use Rattle.reopening.proofs.Cuts.{kept-unmarked, openedStates-unmarked-blank}
+use Rattle.reopening.proofs.Cuts.{kept-unmarked}
 
 -- ---- front and tail
 
@@ -162,11 +162,7 @@ opened-front l f =
 pub opened : (states : States) (entries : Entries) → length states ≡ length entries → Opened (openedStates states entries) entries
 opened states entries l = opened-front (length-openedStates states entries ∙ l) (front-openedStates states entries l)
 
--- opening leaves an opened page as it is
-pub openedStates-opened : {states : States} {entries : Entries} → Opened states entries → openedStates states entries ≡ states
-openedStates-opened o = rw (o .states-split, o .entries-split) (openedStates-unmarked-blank (o .closed) (o .blanks) (o .blank))
-
--- and keeps the items of its front
+-- what is kept are the items of its front
 pub kept-opened : {states : States} {entries : Entries} (o : Opened states entries)
     → keptFrom zero zero states entries ≡ keptFrom zero zero (o .front) (o .bytes)
 kept-opened o = rw (o .states-split, o .entries-split) (kept-unmarked (o .closed) (length (o .blanks)) (o .blanks))

@@ -2,7 +2,7 @@
 -- Not here: what a run of marks does to each state (Marks).
 -- Assumes nothing.
 use mathlib.Core.Path.{_≡_, refl, sym, ap, _∙_}
-use mathlib.Core.Bool.{Bool, true, false, _&&_, cond, and-false}
+use mathlib.Core.Bool.{Bool, true, false, _&&_, and-false}
 use mathlib.Core.List.{List, [], _∷_, _++_, append-nil}
 use Prim.Native.Nat.{ℕ, zero, suc, _+_, _*_, _/_, _%_, _^_, _<_, _≤_}
 use native.Mathlib.Nat.{zero-add, le-of-suc-le-suc, not-suc-le-zero, div-one, div-lt-iff-lt-mul, pow-suc, pow-succ'}
@@ -16,13 +16,9 @@ use borrow.Author.Tests.{eq-eqb, ne-eqb}
 use Rattle.sector.specs.declared.EntryMapState.{EntryMapState}
 use Rattle.sector.specs.declared.EntryMapState.the-variants.{Empty, Written, Erased, Illegal}
 use Rattle.sector.specs.Layout.{entriesPerPage, entrySize, itemsOffset, number, littleEndian, field, sameBytes, entryAt, chunks, entriesOf}
-use Rattle.sector.specs.Map.{bitsOf, stateAt, unpack, statesOf, sameState, countIn, statistics, mark, markRange}
+use Rattle.sector.specs.Map.{bitsOf, stateAt, unpack, statesOf, countIn, statistics, mark, markRange}
 
 -- ---- little-endian numbers
-
-pub length-littleEndian : (n x : ℕ) → length (littleEndian n x) ≡ n
-length-littleEndian zero x = refl
-length-littleEndian (suc n) x = ap suc (length-littleEndian n (x / 256))
 
 pub number-littleEndian : (n x : ℕ) → x < 256 ^ n → number (littleEndian n x) ≡ x
 number-littleEndian zero x h = omega arith
@@ -147,15 +143,6 @@ pub getD-statesOf : (map : List ℕ) (i : ℕ) → length map ≡ 32 → i < 126
 getD-statesOf map i l h = getD-take 126 (unpack map) i Empty h ∙ getD-unpack map i (omega arith)
 
 -- ---- statistics
-
-pub countIn-cons : (s t : EntryMapState) (states : List EntryMapState) → countIn s (t ∷ states) ≡ cond (sameState s t) 1 0 + countIn s states
-unfolding countIn
-countIn-cons s t states = refl
-
-pub countIn-drop : (s : EntryMapState) (states : List EntryMapState) (i : ℕ) → i < length states
-    → countIn s (drop i states) ≡ cond (sameState s (getD states i Empty)) 1 0 + countIn s (drop (i + 1) states)
-unfolding countIn
-countIn-drop s states i h = rw (drop-cons states i Empty h, add-one i)
 
 -- each entry is in one of the four states
 pub countIn-sum : (states : List EntryMapState)

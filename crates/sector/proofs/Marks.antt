@@ -6,7 +6,6 @@
 use mathlib.Core.Path.{_≡_, refl, sym, ap, ap₂, _∙_}
 use mathlib.Core.Bool.{Bool, true, false, cond, false≢true}
 use mathlib.Core.List.{List, [], _∷_, _++_, append-assoc}
-use mathlib.Core.Logic.{_⊎_, inl, inr}
 use Prim.Native.Nat.{ℕ, zero, suc, _≤_, _<_, _+_, _-_, _*_, _/_, _%_}
 use native.Mathlib.Nat.{le-of-suc-le-suc, not-suc-le-zero, suc-inj, add-zero, zero-add, suc-add, div-div-eq-div-mul, div-add-mod', mod-eq-of-lt}
 use native.Mathlib.Decide.{decLe}
@@ -69,18 +68,6 @@ both-erased Written = refl
 both-erased Erased = refl
 both-erased Illegal = refl
 
-pub both-both : (s t : EntryMapState) → both s (both s t) ≡ both s t
-both-both Empty t = refl
-both-both Written Empty = refl
-both-both Written Written = refl
-both-both Written Erased = refl
-both-both Written Illegal = refl
-both-both Erased t = refl
-both-both Illegal Empty = refl
-both-both Illegal Written = refl
-both-both Illegal Erased = refl
-both-both Illegal Illegal = refl
-
 -- ---- four states in a byte
 
 bits-lt : (s : EntryMapState) → bitsOf s < 4
@@ -92,9 +79,6 @@ bits-state (suc zero) h = refl
 bits-state (suc (suc zero)) h = refl
 bits-state (suc (suc (suc zero))) h = refl
 bits-state (suc (suc (suc (suc bits)))) h = absurd (omega arith)
-
-pub packed-lt : (a b c d : EntryMapState) → packed a b c d < 256
-packed-lt a b c d = omega (arith, bits-lt a, bits-lt b, bits-lt c, bits-lt d)
 
 quarters : (byte : ℕ) → byte < 256 → ((byte / 64 % 4 * 4 + byte / 16 % 4) * 4 + byte / 4 % 4) * 4 + byte % 4 ≡ byte
 quarters byte h =
@@ -164,20 +148,6 @@ unpack-pack (a ∷ b ∷ c ∷ d ∷ states) h =
     unpack-packed a b c d (pack states)
     ∙ ap (λ (rest : List EntryMapState). a ∷ b ∷ c ∷ d ∷ rest) (unpack-pack states (omega arith))
 
-pub length-pack : (states : List EntryMapState) → length states % 4 ≡ 0 → 4 * length (pack states) ≡ length states
-length-pack [] h = refl
-length-pack (a ∷ []) h = absurd (omega arith)
-length-pack (a ∷ b ∷ []) h = absurd (omega arith)
-length-pack (a ∷ b ∷ c ∷ []) h = absurd (omega arith)
-length-pack (a ∷ b ∷ c ∷ d ∷ states) h = let rest = length-pack states (omega arith) in omega arith
-
-pub bytes-pack : (states : List EntryMapState) → Bytes (pack states)
-bytes-pack [] = bytes-nil
-bytes-pack (a ∷ []) = bytes-nil
-bytes-pack (a ∷ b ∷ []) = bytes-nil
-bytes-pack (a ∷ b ∷ c ∷ []) = bytes-nil
-bytes-pack (a ∷ b ∷ c ∷ d ∷ states) = bytes-cons (packed-lt a b c d) (bytes-pack states)
-
 pub unpack-append : (xs ys : List ℕ) → unpack (xs ++ ys) ≡ unpack xs ++ unpack ys
 unpack-append [] ys = refl
 unpack-append (byte ∷ xs) ys =
@@ -244,12 +214,6 @@ marked-suc s zero n (t ∷ states) =
     ap (λ (rest : List EntryMapState). both t s ∷ marked s zero n rest) (marked-none s zero states)
 marked-suc s (suc i) n (t ∷ states) = ap (λ (rest : List EntryMapState). t ∷ rest) (marked-suc s i n states)
 
-pub states-marked : (s : EntryMapState) (i n : ℕ) (states : List EntryMapState) → StatesClear states (marked s i n states)
-states-marked s i n [] = states-nil
-states-marked s zero zero (t ∷ states) = states-refl (t ∷ states)
-states-marked s zero (suc n) (t ∷ states) = states-cons (both-both t s) (states-marked s zero n states)
-states-marked s (suc i) n (t ∷ states) = states-cons (both-self t) (states-marked s i n states)
-
 -- states before the range stay
 pub take-marked : (s : EntryMapState) (i n : ℕ) (states : List EntryMapState) (k : ℕ) → k ≤ i → take k (marked s i n states) ≡ take k states
 take-marked s i n states zero h = refl
@@ -266,19 +230,6 @@ drop-marked s zero (suc n) (t ∷ states) zero h = absurd (omega arith)
 drop-marked s (suc i) n (t ∷ states) zero h = absurd (omega arith)
 drop-marked s zero (suc n) (t ∷ states) (suc k) h = drop-marked s zero n states k (omega arith)
 drop-marked s (suc i) n (t ∷ states) (suc k) h = drop-marked s i n states k (omega arith)
-
--- an entry outside the range keeps its state
-pub getD-marked-other : (s : EntryMapState) (i n : ℕ) (states : List EntryMapState) (k : ℕ) (d : EntryMapState) → (k < i) ⊎ (i + n ≤ k)
-    → getD (marked s i n states) k d ≡ getD states k d
-getD-marked-other s i n [] k d h = refl
-getD-marked-other s zero zero (t ∷ states) k d h = refl
-getD-marked-other s zero (suc n) (t ∷ states) zero d (inl h) = absurd (not-suc-le-zero h)
-getD-marked-other s zero (suc n) (t ∷ states) zero d (inr h) = absurd (omega arith)
-getD-marked-other s zero (suc n) (t ∷ states) (suc k) d (inl h) = absurd (not-suc-le-zero h)
-getD-marked-other s zero (suc n) (t ∷ states) (suc k) d (inr h) = getD-marked-other s zero n states k d (inr (omega arith))
-getD-marked-other s (suc i) n (t ∷ states) zero d h = refl
-getD-marked-other s (suc i) n (t ∷ states) (suc k) d (inl h) = getD-marked-other s i n states k d (inl (omega arith))
-getD-marked-other s (suc i) n (t ∷ states) (suc k) d (inr h) = getD-marked-other s i n states k d (inr (omega arith))
 
 -- an entry of the range
 pub getD-marked-same : (s : EntryMapState) (i n : ℕ) (states : List EntryMapState) (k : ℕ) (d : EntryMapState) → i ≤ k → k < i + n → k < length states
