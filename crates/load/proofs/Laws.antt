@@ -1,54 +1,30 @@
 -- Laws of the readings: when a list of checks accepts, what the calls' checks leave known, and an entry's fields.
 -- Assumes nothing.
 use mathlib.Core.Path.{_≡_, refl, sym, ap, _∙_}
-use mathlib.Core.Bool.{Bool, true, false, cond, _&&_, false≢true, and-eq-true-iff}
+use mathlib.Core.Bool.{Bool, true, false, cond, false≢true}
 use mathlib.Core.List.{List, [], _∷_, _++_}
 use Prim.Native.Nat.{ℕ, zero, suc, _+_, _-_, _≤_, _<_}
 use native.Mathlib.Omega.{arith}
-use lib.Dec.{eqb, ltb}
+use lib.Dec.{eqb}
 use lib.ListN.{length, take, drop, getD, length-take, length-drop}
 use lib.Seq.{take-take, drop-drop}
-use borrow.Author.Tests.{ne-eqb, ltb-true, eqb-true, not-false}
+use borrow.Author.Tests.{ltb-true, eqb-true, not-false}
 use Rattle.flash.specs.Flash.{every}
 use Rattle.sector.specs.declared.Answer.{Answer}
 use Rattle.sector.specs.declared.Answer.the-variants.{Done}
 use Rattle.sector.specs.Answers.{Check, numberOf, refusal, accepted}
 use Rattle.sector.specs.Layout.{sectorSize, entriesPerPage, entrySize, entryAddress, entryAt, field}
+use Rattle.sector.proofs.Laws.{refuses, accepted-refusal, accepted-append, refusal-append}
 use Rattle.load.specs.declared.Loaded.{Loaded}
 use Rattle.load.specs.Load.{entryChecks, loadChecks, refusedItem, loadedOr}
 
 -- ---- checks
 
--- a check's answer is no Done
-abbrev pub refuses : Check → Bool
-refuses check = ltb 0 (numberOf (check .1))
-
--- no check refuses where the answer is Done, and only there
-pub accepted-refusal : (checks : List Check) → every refuses checks ≡ true
-    → accepted checks ≡ eqb (numberOf (refusal checks)) 0
-accepted-refusal [] h = refl
-accepted-refusal ((false, answer) ∷ checks) h =
-    accepted-refusal checks (and-eq-true-iff (refuses (false, answer)) (every refuses checks) .0 h .1)
-accepted-refusal ((true, answer) ∷ checks) h =
-    let over = ltb-true 0 (numberOf answer) (and-eq-true-iff (refuses (true, answer)) (every refuses checks) .0 h .0) in
-    sym (ne-eqb (numberOf answer) 0 (λ e. omega arith))
-
--- the same, by the answer and its number that a call has
+-- checks accept where the number of the answer that a call has is 0
 pub accepted-number : (checks : List Check) (answer : Answer) (n : ℕ) → every refuses checks ≡ true
     → answer ≡ refusal checks → n ≡ numberOf answer → accepted checks ≡ eqb n 0
 accepted-number checks answer n h p q =
     accepted-refusal checks h ∙ ap (λ m. eqb m 0) (ap numberOf (sym p) ∙ sym q)
-
--- checks and then others
-pub accepted-append : (xs ys : List Check) → accepted (xs ++ ys) ≡ (accepted xs && accepted ys)
-accepted-append [] ys = refl
-accepted-append ((true, answer) ∷ xs) ys = refl
-accepted-append ((false, answer) ∷ xs) ys = accepted-append xs ys
-
-pub refusal-append : (xs ys : List Check) → refusal (xs ++ ys) ≡ cond (accepted xs) (refusal ys) (refusal xs)
-refusal-append [] ys = refl
-refusal-append ((true, answer) ∷ xs) ys = refl
-refusal-append ((false, answer) ∷ xs) ys = refusal-append xs ys
 
 pub refusal-accepted : (checks : List Check) → accepted checks ≡ true → refusal checks ≡ Done
 refusal-accepted [] h = refl

@@ -1,58 +1,30 @@
 -- Laws of checks: when a list of them accepts, what more checks behind it change, and what a writing call then owes.
 -- Assumes nothing.
 use mathlib.Core.Path.{_≡_, refl, sym, ap, _∙_}
-use mathlib.Core.Bool.{Bool, true, false, not, cond, false≢true, and-eq-true-iff}
+use mathlib.Core.Bool.{Bool, true, false, false≢true}
 use mathlib.Core.List.{List, [], _∷_, _++_}
 use Prim.Native.Nat.{ℕ, _+_, _≤_, _<_}
 use native.Mathlib.Omega.{arith}
-use lib.Dec.{eqb}
 use lib.ListN.{length, take}
 use borrow.Author.Tests.{eqb-true, ltb-false, lt-ltb, le-ltb, not-false}
 use Rattle.flash.specs.Flash.{Unit4, every, run}
 use Rattle.sector.specs.declared.Answer.{Answer}
 use Rattle.sector.specs.declared.Answer.the-variants.{Done, BadImage, BadRecord, WrongState, PageFull, Stopped}
-use Rattle.sector.specs.Answers.{Check, numberOf, refusal, accepted}
+use Rattle.sector.specs.Answers.{Check, refusal, accepted}
 use Rattle.sector.specs.Layout.{sectorSize, entriesPerPage}
+use Rattle.sector.proofs.Laws.{isDone, refuses, accepted-refusal, refusal-append}
 use Rattle.page.specs.declared.ThinPage.{ThinPage}
 use Rattle.page.specs.Record.{nextFree, free, fitToUse}
 use Rattle.page.specs.Writing.{badImage, badRecord, overFree, answered, outcome, imageAfter, stops}
 
 -- ---- a list of checks accepts where its refusal is Done
 
-abbrev pub isDone : Answer → Bool
-isDone answer = eqb (numberOf answer) 0
-
--- a check whose answer, where it refuses, is not Done
-abbrev pub refuses : Check → Bool
-refuses check = not (isDone (check .1))
-
-not-done : (done : Bool) → not done ≡ true → false ≡ done
-not-done true h = h
-not-done false h = refl
-
-accepted-refusal-cons : (test : Bool) (answer : Answer) (checks : List Check) → not (isDone answer) ≡ true
-    → accepted checks ≡ isDone (refusal checks) → accepted ((test, answer) ∷ checks) ≡ isDone (refusal ((test, answer) ∷ checks))
-accepted-refusal-cons true answer checks h more = not-done (isDone answer) h
-accepted-refusal-cons false answer checks h more = more
-
-pub accepted-refusal : (checks : List Check) → every refuses checks ≡ true → accepted checks ≡ isDone (refusal checks)
-accepted-refusal [] h = refl
-accepted-refusal ((test, answer) ∷ checks) h =
-    let both = and-eq-true-iff (not (isDone answer)) (every refuses checks) .0 h in
-    accepted-refusal-cons test answer checks (both .0) (accepted-refusal checks (both .1))
-
--- the same of an answer in hand, and of its test
+-- of an answer in hand, and of its test
 pub accepted-done : (checks : List Check) → every refuses checks ≡ true → {answer : Answer} {done : Bool}
     → answer ≡ refusal checks → done ≡ isDone answer → accepted checks ≡ done
 accepted-done checks h e d = accepted-refusal checks h ∙ sym (d ∙ ap isDone e)
 
 -- ---- more checks behind
-
--- they are asked where those in front accept
-pub refusal-append : (xs ys : List Check) → refusal (xs ++ ys) ≡ cond (accepted xs) (refusal ys) (refusal xs)
-refusal-append [] ys = refl
-refusal-append ((true, answer) ∷ xs) ys = refl
-refusal-append ((false, answer) ∷ xs) ys = refusal-append xs ys
 
 -- a refusal in front is that of all
 pub refusal-refused : (xs ys : List Check) {answer : Answer} → accepted xs ≡ false → answer ≡ refusal xs → answer ≡ refusal (xs ++ ys)

@@ -3,7 +3,7 @@
 -- In order: checks; what an answer tells; a call's units.
 -- Assumes nothing.
 use mathlib.Core.Path.{_≡_, refl, sym, ap, _∙_}
-use mathlib.Core.Bool.{Bool, true, false, _||_, not, cond, false≢true, and-eq-true-iff}
+use mathlib.Core.Bool.{Bool, true, false, _||_, not, false≢true, and-eq-true-iff}
 use mathlib.Core.List.{List, [], _∷_, _++_}
 use mathlib.Core.Logic.{_⊎_, inl, inr}
 use Prim.Native.Nat.{ℕ, zero, suc, _+_, _≤_}
@@ -20,6 +20,7 @@ use Rattle.sector.specs.declared.Answer.the-variants.{Done, KeyNotFound, Corrup
 use Rattle.sector.specs.Answers.{Check, refusal, accepted}
 use Rattle.sector.specs.Item.{loads}
 use Rattle.sector.specs.Layout.{entryAt, spanOf}
+use Rattle.sector.proofs.Laws.{accepted-append}
 use Rattle.header.specs.Calls.{initialise, initialiseImage, markFull, markFullImage}
 use Rattle.append.specs.Append.{appendSingle, appendSingleImage, appendVariable, appendVariableImage}
 use Rattle.copy.specs.Copy.{copyIn, copyInImage}
@@ -47,21 +48,12 @@ checks-refuse (putting (copied source i)) image page = refl
 checks-refuse (erasing index span) image page = refl
 checks-refuse (purging namespace) image page = refl
 
-pub accepted-append : (xs ys : List Check) → accepted (xs ++ ys) ≡ cond (accepted xs) (accepted ys) false
-accepted-append [] ys = refl
-accepted-append ((true, answer) ∷ xs) ys = refl
-accepted-append ((false, answer) ∷ xs) ys = accepted-append xs ys
-
 pub or-false : (a b : Bool) → (a || b) ≡ false → (a ≡ false) × (b ≡ false)
 or-false true b h = absurd (false≢true (sym h))
 or-false false b h = (refl, h)
 
 pub accepted-both : (xs ys : List Check) → accepted (xs ++ ys) ≡ true → (accepted xs ≡ true) × (accepted ys ≡ true)
-accepted-both xs ys h = by-test (accepted xs) refl (sym (accepted-append xs ys) ∙ h)
-  where
-    by-test : (ok : Bool) → accepted xs ≡ ok → cond ok (accepted ys) false ≡ true → (accepted xs ≡ true) × (accepted ys ≡ true)
-    by-test true e h = (e, h)
-    by-test false e h = absurd (false≢true h)
+accepted-both xs ys h = and-eq-true-iff (accepted xs) (accepted ys) .0 (sym (accepted-append xs ys) ∙ h)
 
 -- a copy that is accepted so far: its span is at least 1, and leaves neither page
 pub copied-span : (source : List ℕ) (i : ℕ) (image : List ℕ) (page : ThinPage) → accepted (earlierChecks (copied source i) image page) ≡ true

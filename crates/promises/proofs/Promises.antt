@@ -19,18 +19,18 @@ use Rattle.page.specs.declared.Outcome.{Outcome}
 use Rattle.page.specs.declared.ThinPage.{ThinPage}
 use Rattle.page.specs.Record.{free}
 use Rattle.page.specs.Writing.{badImage, overFree, answered, outcome, imageAfter, stops}
-use Rattle.page.proofs.Checks.{refusal-append}
 use Rattle.sector.specs.declared.Answer.{Answer}
 use Rattle.sector.specs.declared.Answer.the-variants.{BadImage, ValueTooLong, PageFull, Stopped}
 use Rattle.sector.specs.Answers.{numberOf, Check, refusal, accepted}
 use Rattle.sector.specs.Layout.{entryAt, spanOf}
+use Rattle.sector.proofs.Laws.{accepted-append, refusal-append}
 use Rattle.header.specs.Calls.{initialiseChecks, initialisePlan, initialised, initialise}
 use Rattle.append.specs.Append.{singleChecks, variableChecks, singlePlan, withSingle, spanFor, variablePlan, withVariable, appendSingle, appendVariable}
 use Rattle.copy.specs.Copy.{copyChecks, copyPlan, withCopy, copyIn}
 use Rattle.purge.specs.Purge.{purgePlan, purge, purgeImage}
 use Rattle.promises.specs.Promises.{single, variable, copied, initialising, markingFull, putting, erasing, purging, checksOf, planOf, newOf, PlainFromTotal, StoppedLeavesFirst, StopsBelowTotal, isRefusal, RefusedChangesNothing, RefusedPurgesNothing, earlierChecks, PageFullExactly, SetsNoBit, OnlyClearsBits, PurgeOnlyClearsBits, writesOf, AltersNothingElse}
 use Rattle.promises.proofs.Order.{writes-in-order, outside-joined, getD-after}
-use Rattle.promises.proofs.Answers.{checks-refuse, accepted-append, copied-span, stopped-only, refusal-only, told}
+use Rattle.promises.proofs.Answers.{checks-refuse, copied-span, stopped-only, refusal-only, told}
 
 -- ---- the total
 

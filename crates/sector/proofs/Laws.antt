@@ -1,8 +1,8 @@
--- Laws of the sector's definitions, in the order of specs/: Layout, then Map; between them, bytes laid over others and copied.
+-- Laws of the sector's definitions, in the order of specs/: Layout, Answers, Map; behind Layout, bytes laid over others and copied.
 -- Not here: what a run of marks does to each state (Marks).
 -- Assumes nothing.
 use mathlib.Core.Path.{_≡_, refl, sym, ap, _∙_}
-use mathlib.Core.Bool.{Bool, true, false, _&&_, and-false}
+use mathlib.Core.Bool.{Bool, true, false, _&&_, not, cond, and-false, and-eq-true-iff}
 use mathlib.Core.List.{List, [], _∷_, _++_, append-nil}
 use Prim.Native.Nat.{ℕ, zero, suc, _+_, _*_, _/_, _%_, _^_, _<_, _≤_}
 use native.Mathlib.Nat.{zero-add, le-of-suc-le-suc, not-suc-le-zero, div-one, div-lt-iff-lt-mul, pow-suc, pow-succ'}
@@ -12,10 +12,13 @@ use lib.ListN.{length, getD, set, take, drop, length-append, length-take, length
 use lib.Pow.{pow-add}
 use lib.Dec.{eqb}
 use lib.Seq.{drop-cons, drop-length, drop-drop, take-at, getD-take, paste-suc}
-use borrow.Author.Tests.{eq-eqb, ne-eqb}
+use borrow.Author.Tests.{eq-eqb, ne-eqb, not-true}
+use Rattle.flash.specs.Flash.{every}
+use Rattle.sector.specs.declared.Answer.{Answer}
 use Rattle.sector.specs.declared.EntryMapState.{EntryMapState}
 use Rattle.sector.specs.declared.EntryMapState.the-variants.{Empty, Written, Erased, Illegal}
 use Rattle.sector.specs.Layout.{entriesPerPage, entrySize, itemsOffset, number, littleEndian, field, sameBytes, entryAt, chunks, entriesOf}
+use Rattle.sector.specs.Answers.{Check, numberOf, refusal, accepted}
 use Rattle.sector.specs.Map.{bitsOf, stateAt, unpack, statesOf, countIn, statistics, mark, markRange}
 
 -- ---- little-endian numbers
@@ -98,6 +101,35 @@ pub copied-next : (part into : List ℕ) (k : ℕ) → k < length part → k < l
 copied-next part into k inside room =
     let place : 0 + k < length into = omega arith in
     rw (add-one k) (rw (zero-add k, zero-add (suc k)) at (paste-suc into 0 part k 0 place inside))
+
+-- ---- checks
+
+abbrev pub isDone : Answer → Bool
+isDone answer = eqb (numberOf answer) 0
+
+-- a check whose answer, where it refuses, is not Done
+abbrev pub refuses : Check → Bool
+refuses check = not (isDone (check .1))
+
+-- a list of such checks accepts where its refusal is Done, and only there
+pub accepted-refusal : (checks : List Check) → every refuses checks ≡ true → accepted checks ≡ isDone (refusal checks)
+accepted-refusal [] h = refl
+accepted-refusal ((true, answer) ∷ checks) h =
+    sym (not-true (isDone answer) (and-eq-true-iff (refuses (true, answer)) (every refuses checks) .0 h .0))
+accepted-refusal ((false, answer) ∷ checks) h =
+    accepted-refusal checks (and-eq-true-iff (refuses (false, answer)) (every refuses checks) .0 h .1)
+
+-- checks and then others
+pub accepted-append : (xs ys : List Check) → accepted (xs ++ ys) ≡ (accepted xs && accepted ys)
+accepted-append [] ys = refl
+accepted-append ((true, answer) ∷ xs) ys = refl
+accepted-append ((false, answer) ∷ xs) ys = accepted-append xs ys
+
+-- those behind are asked where those in front accept
+pub refusal-append : (xs ys : List Check) → refusal (xs ++ ys) ≡ cond (accepted xs) (refusal ys) (refusal xs)
+refusal-append [] ys = refl
+refusal-append ((true, answer) ∷ xs) ys = refl
+refusal-append ((false, answer) ∷ xs) ys = refusal-append xs ys
 
 -- ---- states
 

@@ -5,9 +5,10 @@ use mathlib.Core.List.{List, [], _∷_}
 use borrow.Author.Needs.{needs}
 use borrow.Author.Tests.{eq-eqb, ne-eqb, lt-ltb, le-ltb, not-true, not-false}
 use lib.ListN.{drop}
-use Rattle.page.proofs.Checks.{accepted-done, refusal-append}
+use Rattle.page.proofs.Checks.{accepted-done}
 use Rattle.page.specs.Writing.{badRecord, notActive}
 use Rattle.sector.specs.Answers.{Check, refusal, accepted}
+use Rattle.sector.proofs.Laws.{refusal-append}
 use Rattle.copy.specs.Copy.{copyChecks}
 use Rattle.copy.proofs.copy_refusal.Statement.{statement}
 use Rattle.copy.proofs.copy_refusal.Tie as tie

@@ -12,12 +12,13 @@ use Rattle.sector.specs.declared.Answer.{Answer}
 use Rattle.sector.specs.Answers.{Check, refusal, accepted}
 use Rattle.sector.specs.Layout.{entryAddress, entryAt, sizeOf}
 use Rattle.sector.specs.Types.{sanitized}
+use Rattle.sector.proofs.Laws.{accepted-append, refusal-append}
 use Rattle.payload.specs.declared.DataLoaded.{DataLoaded}
 use Rattle.load.specs.declared.Loaded.{Loaded}
 use Rattle.payload.specs.Payload.{roundedUp, payloadChecks, dataChecks, dataAnswer, dataOutput}
 use Rattle.load.specs.Load.{loadChecks, loadItem}
 use Rattle.payload.proofs.Laws.{payloadChecks-sanitized, sizeOf-sanitized, DataFits, data-fits, data-inside, length-part, part-copied}
-use Rattle.load.proofs.Laws.{accepted-number, accepted-append, refusal-append, refusal-accepted, loadedOr-answer, loadedOr-item, load-fits, length-entryAt}
+use Rattle.load.proofs.Laws.{accepted-number, refusal-accepted, loadedOr-answer, loadedOr-item, load-fits, length-entryAt}
 use Rattle.payload.proofs.load_referenced_data_into.Statement.{statement}
 use Rattle.payload.proofs.load_referenced_data_into.Tie as tie
 
