@@ -1,9 +1,9 @@
 -- Laws of counting: entries counted one behind the other, and the states of a map byte by byte.
 -- Assumes nothing.
-use mathlib.Core.Path.{_≡_, refl, sym, ap, ap₂, _∙_}
+use mathlib.Core.Path.{_≡_, sym, ap, ap₂, _∙_}
 use mathlib.Core.Bool.{cond}
 use mathlib.Core.List.{List, [], _∷_, _++_, append-assoc}
-use Prim.Native.Nat.{ℕ, zero, suc, _+_, _*_, _/_, _%_, _<_, _≤_}
+use Prim.Native.Nat.{ℕ, _+_, _*_, _/_, _%_, _<_, _≤_}
 use native.Mathlib.Nat.{zero-add, add-zero}
 use native.Mathlib.Numerals.{add-one}
 use native.Mathlib.Omega.{arith}
@@ -15,14 +15,10 @@ use Rattle.sector.specs.declared.EntryMapState.the-variants.{Empty, Written, Er
 use Rattle.sector.specs.declared.Statistics.{Statistics}
 use Rattle.sector.specs.Map.{bitsOf, stateOfBits, unpack, statesOf, sameState, countIn, statistics}
 use Rattle.sector.proofs.Laws.{length-unpack, countIn-sum}
+use Rattle.sector.proofs.Marks.{bits-state, unpack-append, countIn-append}
 use Rattle.map.specs.Counting.{inAll, counted}
 
 -- ---- counts
-
-pub countIn-append : (s : EntryMapState) (xs ys : List EntryMapState) → countIn s (xs ++ ys) ≡ countIn s xs + countIn s ys
-unfolding countIn
-countIn-append s [] ys = sym (zero-add (countIn s ys))
-countIn-append s (x ∷ xs) ys = let rest = countIn-append s xs ys in omega arith
 
 pub counted-append : (counts : Statistics) (xs ys : List EntryMapState) → counted (counted counts xs) ys ≡ counted counts (xs ++ ys)
 unfolding counted
@@ -35,14 +31,7 @@ pub inAll-counted : (counts : Statistics) (states : List EntryMapState) → inAl
 unfolding counted
 inAll-counted counts states = let sum = countIn-sum states in omega arith
 
--- ---- two bits
-
-bits-state : (bits : ℕ) → bits < 4 → bitsOf (stateOfBits bits) ≡ bits
-bits-state zero h = refl
-bits-state (suc zero) h = refl
-bits-state (suc (suc zero)) h = refl
-bits-state (suc (suc (suc zero))) h = refl
-bits-state (suc (suc (suc (suc n)))) h = absurd (omega arith)
+-- ---- an entry
 
 -- one where an entry's bits are those of a state
 one-state : (s : EntryMapState) (bits n : ℕ) {one : ℕ} → bits < 4 → one ≡ cond (eqb (bitsOf s) bits) 1 0
@@ -65,13 +54,6 @@ counted-entry counts bits h e w r i =
     )
 
 -- ---- bytes
-
-pub unpack-append : (xs ys : List ℕ) → unpack (xs ++ ys) ≡ unpack xs ++ unpack ys
-unpack-append [] ys = refl
-unpack-append (x ∷ xs) ys =
-    ap
-    (λ (rest : List EntryMapState). stateOfBits (x % 4) ∷ stateOfBits (x / 4 % 4) ∷ stateOfBits (x / 16 % 4) ∷ stateOfBits (x / 64 % 4) ∷ rest)
-    (unpack-append xs ys)
 
 -- the counts of the first bytes of a map
 abbrev pub countedTo : List ℕ → ℕ → Statistics

@@ -6,7 +6,7 @@ use mathlib.Core.List.{List, [], _++_}
 use Prim.Native.Nat.{ℕ, _+_, _-_, _*_, _/_, _≤_}
 use native.Mathlib.Omega.{arith}
 use lib.Dec.{eqb}
-use lib.ListN.{length, take, drop, length-append, length-take, length-drop}
+use lib.ListN.{length, take, drop, length-append, length-take}
 use Rattle.flash.specs.Flash.{Unit4, units, run}
 use Rattle.flash.proofs.Laws.{length-units-whole, length-units-le, run-budget}
 use Rattle.sector.specs.declared.PageState.the-variants.{Full}
@@ -16,15 +16,6 @@ use Rattle.sector.specs.Map.{mapUnits}
 use Rattle.page.specs.Writing.{fullUnits}
 
 -- ---- how many units
-
--- one unit for every sixteen entries that the range touches
-pub length-map-units : (i n : ℕ) (map : List ℕ) → length map ≡ 32 → 1 ≤ n → i + n ≤ 126 → length (mapUnits i n map) ≡ (i + n - 1) / 16 + 1 - i / 16
-unfolding mapUnits
-length-map-units i n map l one h =
-    let first : ℕ = i / 16 in
-    let last : ℕ = (i + n - 1) / 16 in
-    length-units-whole (mapOffset + 4 * first) (last + 1 - first) (field (4 * first) (4 * (last + 1 - first)) map)
-    (rw (length-take, length-drop, l) (omega arith))
 
 -- at most eight, whatever the map's length
 pub length-map-units-le : (i n : ℕ) (map : List ℕ) → i + n ≤ 126 → length (mapUnits i n map) ≤ 8

@@ -499,6 +499,7 @@ within-mapUnits i n map h g =
     let long : length part ≤ 4 * count = rw length-take (omega arith) in
     within-wider 32 64 (omega arith) (omega arith) (within-units (mapOffset + 4 * first) part)
 
+-- one unit for every sixteen entries that the range touches
 pub length-mapUnits : (i n : ℕ) (map : List ℕ) → length map ≡ 32 → 1 ≤ n → i + n ≤ 128 → length (mapUnits i n map) ≡ (i + n - 1) / 16 + 1 - i / 16
 unfolding mapUnits
 length-mapUnits i n map l h g =
