@@ -1,23 +1,20 @@
--- Laws of appends: the checks that they share, what accepted checks tell, and how many units they have.
+-- Laws of appends: the checks that they share, and what accepted checks tell.
 -- Assumes nothing.
 use mathlib.Core.Path.{_≡_}
 use mathlib.Core.Bool.{true}
 use mathlib.Core.List.{List, [], _∷_}
 use Prim.Native.Nat.{ℕ, _+_, _≤_}
 use native.Mathlib.Omega.{arith}
-use lib.ListN.{length, length-append}
+use lib.ListN.{length}
 use Rattle.page.specs.declared.ThinPage.{ThinPage}
 use Rattle.page.specs.Record.{nextFree, fitToUse}
 use Rattle.page.specs.Writing.{badImage, badRecord, notActive, overFree}
 use Rattle.page.proofs.Checks.{accepted-tail, accepted-room, accepted-usable}
 use Rattle.sector.specs.declared.Answer.the-variants.{BadRequest}
 use Rattle.sector.specs.Answers.{Check, accepted}
-use Rattle.sector.specs.Item.{itemBytes}
 use Rattle.sector.specs.Layout.{sectorSize, entriesPerPage}
 use Rattle.append.specs.declared.Single.{Single}
 use Rattle.append.specs.Append.{singleRequest, singleChecks}
-
--- ---- checks
 
 -- those in front of every append
 abbrev pub frontChecks : List ℕ → ThinPage → List Check
@@ -34,11 +31,3 @@ single-room image page item h =
     let usable = accepted-usable image page (notActive page .0) (singleRequest item ∷ overFree page 1 ∷ []) h in
     let behind-request = accepted-tail (singleRequest item .0) BadRequest (overFree page 1 ∷ []) (usable .rest) in
     record { whole = usable .whole; fit = usable .fit; room = accepted-room page 1 (omega arith) behind-request }
-
--- ---- units
-
--- an item of a whole key and whole data fills its entry
-pub length-itemBytes : (namespace type span chunk : ℕ) (key bytes : List ℕ) → length key ≡ 16 → length bytes ≡ 8
-    → length (itemBytes namespace type span chunk key bytes) ≡ 32
-unfolding itemBytes
-length-itemBytes namespace type span chunk key bytes k b = omega (arith, length-append key bytes)

@@ -18,6 +18,7 @@ use Rattle.sector.specs.Answers.{Check, refusal, accepted, numberOf}
 use Rattle.sector.specs.Item.{sizedData}
 use Rattle.sector.specs.Layout.{entryAddress}
 use Rattle.sector.specs.Map.{markRange, mapUnits}
+use Rattle.sector.proofs.Laws.{length-itemBytes, length-sizedData}
 use Rattle.page.specs.declared.Outcome.{Outcome}
 use Rattle.page.specs.declared.ThinPage.{ThinPage}
 use Rattle.page.specs.Record.{nextFree}
@@ -26,7 +27,7 @@ use Rattle.page.proofs.Plans.{length-seal-le}
 use Rattle.append.specs.declared.Single.{Single}
 use Rattle.append.specs.declared.Variable.{Variable}
 use Rattle.append.specs.Append.{singleChecks, singleBytes, singlePlan, withSingle, appendSingle, spanFor, variableChecks, variableHeader, variablePlan, withVariable, appendVariable}
-use Rattle.append.proofs.Laws.{single-room, length-itemBytes}
+use Rattle.append.proofs.Laws.{single-room}
 use Rattle.append_variable.proofs.Laws.{variable-room}
 use Rattle.request.specs.declared.Request.{Request}
 use Rattle.cutting.specs.declared.Sector.{Sector}
@@ -107,10 +108,6 @@ single-le image page item k b h =
       length-itemBytes (item .namespace) (item .kind) 1 (item .chunk) (item .key) (item .bytes) k b,
       length-seal-le start 1 (markRange Written start 1 (page .map)) (single-room image page item h .room),
     )
-
-length-sizedData : (payload : List ℕ) → length (sizedData payload) ≡ 8
-unfolding sizedData
-length-sizedData payload = refl
 
 variable-le : (image : List ℕ) (page : ThinPage) (item : Variable) (payload : List ℕ) → length (item .key) ≡ 16
     → accepted (variableChecks image page item payload) ≡ true → length (variablePlan page item payload) ≤ 1100

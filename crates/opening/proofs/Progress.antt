@@ -4,7 +4,7 @@ use mathlib.Core.Path.{_≡_, refl, sym, ap, ap₂, _∙_}
 use mathlib.Core.Bool.{Bool, true, false, and-eq-true-iff, false≢true}
 use mathlib.Core.List.{List, [], _∷_, _++_, append-assoc, append-nil}
 use Prim.Native.Nat.{ℕ, zero, suc, _+_, _-_, _<_, _≤_}
-use native.Mathlib.Nat.{le-of-suc-le-suc, not-suc-le-zero, le-refl, add-zero, sub-zero}
+use native.Mathlib.Nat.{le-of-suc-le-suc, not-suc-le-zero, le-refl, add-zero}
 use native.Mathlib.Numerals.{add-one}
 use native.Mathlib.Omega.{arith}
 use lib.Dec.{eqb}
@@ -18,7 +18,7 @@ use Rattle.sector.specs.declared.EntryMapState.the-variants.{Empty, Written, Er
 use Rattle.sector.specs.Item.{hashOfItem}
 use Rattle.sector.specs.Layout.{entriesPerPage, entryAt, entriesOf, namespaceOf}
 use Rattle.sector.specs.Map.{unpack, statesOf, stateAt, markRange}
-use Rattle.sector.proofs.Laws.{length-statesOf, length-markRange, length-entriesOf}
+use Rattle.sector.proofs.Laws.{drop-replicate, length-statesOf, length-markRange, length-entriesOf}
 use Rattle.sector.proofs.Marks.{marked, both, take-marked, drop-marked, marked-erased, statesOf-markRange, unpack-markRange, bytes-markRange}
 use Rattle.opening.specs.declared.Listing.{Listing}
 use Rattle.reading.specs.declared.Verdict.{Verdict}
@@ -45,13 +45,6 @@ take-replicate : {A : Type 0} (k n : ℕ) (x : A) → k ≤ n → take k (replic
 take-replicate zero n x h = refl
 take-replicate (suc k) zero x h = absurd (not-suc-le-zero h)
 take-replicate (suc k) (suc n) x h = ap (λ (rest : List _). x ∷ rest) (take-replicate k n x (le-of-suc-le-suc h))
-
-drop-replicate : {A : Type 0} (k n : ℕ) (x : A) → k ≤ n → drop k (replicate n x) ≡ replicate (n - k) x
-drop-replicate zero n x h = rw sub-zero
-drop-replicate (suc k) zero x h = absurd (not-suc-le-zero h)
-drop-replicate (suc k) (suc n) x h =
-    let less : n - k ≡ suc n - suc k = omega arith in
-    drop-replicate k n x (le-of-suc-le-suc h) ∙ ap (λ (m : ℕ). replicate m x) less
 
 -- ---- the verdict at an index
 
@@ -276,7 +269,7 @@ heads-step image map heads i long inside to =
     let within : take (suc k) (drop i (set heads i head)) ≡ head ∷ replicate k false =
     rw stored (ap (λ (rest : List Bool). head ∷ rest) (take-replicate k (125 - i) false (omega arith))) in
     let behind : drop (suc k) (drop i (set heads i head)) ≡ replicate (125 - i - k) false =
-    rw stored (drop-replicate k (125 - i) false (omega arith)) in
+    rw stored (drop-replicate k (125 - i) false) in
     let less : 125 - i - k ≡ 126 - j = omega arith in
     record {
       marks =

@@ -1,4 +1,4 @@
--- Entries cut out of bytes that are joined, or longer. Other laws of `chunks` are opening's (Entries).
+-- Entries cut out of bytes that are joined, or longer. Other laws of `chunks` are sector's (Laws) and reading's (Entries).
 -- Assumes nothing.
 use mathlib.Core.Path.{_≡_, refl, sym, ap, ap₂, _∙_}
 use mathlib.Core.List.{List, [], _∷_, _++_}
@@ -8,9 +8,7 @@ use native.Mathlib.Omega.{arith}
 use lib.ListN.{length, take, drop, length-drop}
 use lib.Seq.{take-append-le, drop-append-le, take-take, take-nil}
 use Rattle.sector.specs.Layout.{chunks}
-
-pub suc-entries : (n : ℕ) → 32 * suc n ≡ 32 + 32 * n
-suc-entries n = omega arith
+use Rattle.sector.proofs.Laws.{suc-entries}
 
 -- the first n entries of bytes that are n entries and more
 pub chunks-append : (m n : ℕ) (xs ys : List ℕ) → length xs ≡ 32 * m → chunks (m + n) (xs ++ ys) ≡ chunks m xs ++ chunks n ys

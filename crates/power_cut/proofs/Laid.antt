@@ -2,7 +2,7 @@
 --
 -- In order: the bytes of new items; one write of whole entries; header and payload; a copy.
 -- Assumes nothing.
-use mathlib.Core.Path.{_≡_, refl, sym, ap, ap₂, _∙_, subst}
+use mathlib.Core.Path.{_≡_, sym, ap, ap₂, _∙_, subst}
 use mathlib.Core.Bool.{true}
 use mathlib.Core.List.{List, [], _∷_, _++_, append-assoc, append-nil}
 use Prim.Native.Nat.{ℕ, zero, suc, _+_, _-_, _*_, _/_, _%_, _≤_, _<_}
@@ -17,7 +17,7 @@ use Rattle.flash.proofs.Laws.{Bytes, bytes-nil, bytes-cons, bytes-append, bytes
 use Rattle.crc.specs.Crc.{crc32}
 use Rattle.sector.specs.Item.{crcStart, itemBytes, sizedData}
 use Rattle.sector.specs.Layout.{entryAddress, entryAt, chunks, entriesOf, spanOf, littleEndian}
-use Rattle.sector.proofs.Laws.{length-entriesOf, length-chunks}
+use Rattle.sector.proofs.Laws.{length-entriesOf, length-chunks, length-itemBytes, length-sizedData}
 use Rattle.sector.specs.Types.{itemType, hasPayload}
 use Rattle.append.specs.declared.Single.{Single}
 use Rattle.append.specs.declared.Variable.{Variable}
@@ -51,11 +51,6 @@ bytes-item : (namespace kind span chunk : ℕ) {key bytes : List ℕ} → namesp
 unfolding itemBytes
 bytes-item namespace kind span chunk n k s c bk bb =
     bytes-cons n (bytes-cons k (bytes-cons s (bytes-cons c (bytes-append (bytes-littleEndian 4 _) (bytes-append bk bb)))))
-
-length-item : (namespace kind span chunk : ℕ) (key bytes : List ℕ) → length key ≡ 16 → length bytes ≡ 8
-    → length (itemBytes namespace kind span chunk key bytes) ≡ 32
-unfolding itemBytes
-length-item namespace kind span chunk key bytes k b = rw (length-append key bytes, k, b)
 
 -- ---- one write of whole entries
 
@@ -91,7 +86,7 @@ module _ {image : List ℕ} {items : List Item} (p : Standing image items) where
   pub lays-single : (request : Single) → SingleRequest request → isSingle (itemType (request .kind)) ≡ true → 1 ≤ p .spare
       → Lays p (singleBytes request) [] (units (entryAddress (length (p .front))) (singleBytes request))
   lays-single request asked typed room =
-      let size = length-item (request .namespace) (request .kind) 1 (request .chunk) (request .key) (request .bytes) (asked .key-size) (asked .bytes-size) in
+      let size = length-itemBytes (request .namespace) (request .kind) 1 (request .chunk) (request .key) (request .bytes) (asked .key-size) (asked .bytes-size) in
       lays-whole (singleBytes request) [] (singleBytes request) size
       (unfold chunks in (ap (λ (entry : List ℕ). entry ∷ []) (take-all 32 (singleBytes request) (omega arith))))
       (single-whole request typed []) room
@@ -130,12 +125,8 @@ module _ {image : List ℕ} {items : List Item} (p : Standing image items) where
         (bytes-of (request .key) (asked .key))
         (bytes-append (bytes-littleEndian 2 (length payload)) (bytes-append (bytes-ones 2) (bytes-littleEndian 4 (crc32 crcStart payload))))
 
-    sized-size : length (sizedData payload) ≡ 8
-    unfolding sizedData
-    sized-size = refl
-
     header-size : length header ≡ 32
-    header-size = length-item (request .namespace) (request .kind) (spanFor (length payload)) (request .chunk) (request .key) (sizedData payload) (asked .key-size) sized-size
+    header-size = length-itemBytes (request .namespace) (request .kind) (spanFor (length payload)) (request .chunk) (request .key) (sizedData payload) (asked .key-size) (length-sizedData payload)
 
     -- the header entry first
     after-header : run (units (entryAddress start) header) image ≡ (front-bytes p ++ header) ++ (replicate (32 * k) 0xFF ++ behind)

@@ -14,7 +14,7 @@ use Rattle.flash.proofs.Laws.{Bytes, bytes-take, bytes-drop, bytes-run, OnlyCle
 use Rattle.sector.specs.declared.EntryMapState.the-variants.{Empty}
 use Rattle.sector.specs.Layout.{chunks, entriesOf, mapOf}
 use Rattle.sector.specs.Map.{unpack, pack, statesOf}
-use Rattle.sector.proofs.Laws.{length-statesOf, length-unpack, length-chunks}
+use Rattle.sector.proofs.Laws.{length-statesOf, length-unpack, length-chunks, suc-entries}
 use Rattle.sector.proofs.Marks.{states-refl, states-append, clears-pack, pack-unpack, unpack-pack, image-parts}
 use Rattle.reading.specs.Reading.{keptFrom, openedStates}
 use Rattle.marks.specs.Marks.{changedUnits}
@@ -25,7 +25,7 @@ use Rattle.reopening.proofs.Reopened.{length-openedStates, kept-openedStates}
 use Rattle.reopening.proofs.TwoPasses.{clears-firstStates, clears-secondPass}
 use Rattle.reopening.proofs.OpenedFront.{Opened, opened}
 use Rattle.reopening.proofs.Cuts.{kept-unmarked}
-use Rattle.power_cut.proofs.Chunks.{chunks-append, suc-entries}
+use Rattle.power_cut.proofs.Chunks.{chunks-append}
 use Rattle.power_cut.proofs.Found.{map-size}
 use Rattle.power_cut.proofs.MapUnits.{splice-all, run-changed}
 use Rattle.power_cut.proofs.Standing.{Standing}

@@ -23,8 +23,8 @@ use Rattle.reading.proofs.Verdicts.{States}
 use Rattle.reopening.proofs.Closed.{Closed}
 use Rattle.reopening.proofs.TwoPasses.{firstPass-same}
 use Rattle.reopening.proofs.Cuts.{kept-unmarked, openedStates-unmarked-blank}
-use Rattle.sector.proofs.Laws.{length-chunks}
-use Rattle.power_cut.proofs.Chunks.{chunks-append, suc-entries}
+use Rattle.sector.proofs.Laws.{length-chunks, suc-entries}
+use Rattle.power_cut.proofs.Chunks.{chunks-append}
 
 -- ---- the page
 

@@ -10,7 +10,7 @@ use Prim.Native.Nat.{ℕ, zero, suc, _+_, _-_, _*_, _/_, _≤_, _<_}
 use native.Mathlib.Nat.{add-zero}
 use native.Mathlib.Omega.{arith}
 use lib.Dec.{eqb, ltb, leb}
-use lib.ListN.{length, take, drop, getD, replicate, length-append, length-take, length-replicate}
+use lib.ListN.{length, take, drop, getD, replicate, length-take, length-replicate}
 use lib.Seq.{getD-take, getD-drop}
 use borrow.Author.Tests.{ltb-true, leb-true, le-leb, le-ltb, eqb-true}
 use Rattle.flash.specs.Flash.{Unit4, unit, units, run, every}
@@ -22,9 +22,10 @@ use Rattle.sector.specs.declared.EntryMapState.the-variants.{Written, Erased}
 use Rattle.sector.specs.declared.PageState.the-variants.{Full}
 use Rattle.sector.specs.Answers.{accepted}
 use Rattle.sector.specs.Header.{headerBytes, stateBytes}
-use Rattle.sector.specs.Item.{itemBytes, sizedData}
+use Rattle.sector.specs.Item.{sizedData}
 use Rattle.sector.specs.Layout.{mapOffset, entryAddress, entryAt, entriesOf, spanOf, field}
 use Rattle.sector.specs.Map.{statesOf, markRange, mapUnits}
+use Rattle.sector.proofs.Laws.{length-itemBytes, length-sizedData}
 use Rattle.header.specs.Calls.{initialisePlan, markFullPlan}
 use Rattle.append.specs.Append.{singleBytes, singlePlan, spanFor, variableHeader, variablePlan}
 use Rattle.copy.specs.Copy.{copiedBytes, copyPlan}
@@ -114,28 +115,20 @@ rises-marks i n map =
     let long : length part ≤ 4 * count = rw length-take (omega arith) in
     rises-units (mapOffset + 4 * first) part (marking i n [] .to) (omega arith)
 
-length-itemBytes : (namespace type span chunk : ℕ) (key bytes : List ℕ) → length (itemBytes namespace type span chunk key bytes) ≡ 8 + length key + length bytes
-unfolding itemBytes
-length-itemBytes namespace type span chunk key bytes = simp length-append (omega arith)
-
-length-sizedData : (payload : List ℕ) → length (sizedData payload) ≡ 8
-unfolding sizedData
-length-sizedData payload = refl
-
 rises-entries : (new : NewItem) (page : ThinPage) → formed (putting new) ≡ true
     → rises (entryAddress (nextFree page)) (entryAddress (nextFree page + spanOfNew new)) (entryUnits new page) ≡ true
 rises-entries (single item) page h =
     let both = and-eq-true-iff (eqb (length (item .key)) 16) (eqb (length (item .bytes)) 8) .0 h in
     let key : length (item .key) ≡ 16 = eqb-true (length (item .key)) 16 (both .0) in
     let bytes : length (item .bytes) ≡ 8 = eqb-true (length (item .bytes)) 8 (both .1) in
-    let size : length (singleBytes item) ≡ 32 = length-itemBytes (item .namespace) (item .kind) 1 (item .chunk) (item .key) (item .bytes) ∙ rw (key, bytes) in
+    let size : length (singleBytes item) ≡ 32 = length-itemBytes (item .namespace) (item .kind) 1 (item .chunk) (item .key) (item .bytes) key bytes in
     rises-units (entryAddress (nextFree page)) (singleBytes item) (entryAddress (nextFree page + 1)) (omega arith)
 rises-entries (variable item payload) page h =
     let start = nextFree page in
     let span = spanFor (length payload) in
     let key : length (item .key) ≡ 16 = eqb-true (length (item .key)) 16 h in
     let size : length (variableHeader item payload) ≡ 32 =
-    length-itemBytes (item .namespace) (item .kind) span (item .chunk) (item .key) (sizedData payload) ∙ rw (key, length-sizedData payload) in
+    length-itemBytes (item .namespace) (item .kind) span (item .chunk) (item .key) (sizedData payload) key (length-sizedData payload) in
     rises-append (entryAddress start) (entryAddress (start + 1)) (entryAddress (start + span))
     (units (entryAddress start) (variableHeader item payload)) (units (entryAddress (start + 1)) payload)
     (omega arith) (omega arith)

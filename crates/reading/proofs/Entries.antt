@@ -11,11 +11,8 @@ use lib.Seq.{drop-cons, drop-drop, take-add, take-take}
 use Rattle.sector.specs.Layout.{entrySize, itemsOffset, entryAddress, entryAt, chunks, entriesOf}
 use Rattle.sector.specs.declared.EntryMapState.the-variants.{Empty}
 use Rattle.sector.specs.Map.{stateAt, statesOf}
-use Rattle.sector.proofs.Laws.{length-entriesOf, getD-entriesOf, length-statesOf, getD-statesOf}
+use Rattle.sector.proofs.Laws.{suc-entries, length-entriesOf, getD-entriesOf, length-statesOf, getD-statesOf}
 use Rattle.reading.specs.Reading.{joined}
-
-next-offset : (i : ℕ) → 32 + 32 * i ≡ 32 * suc i
-next-offset i = omega arith
 
 pub take-chunks : (k n : ℕ) (bytes : List ℕ) → k ≤ n → take k (chunks n bytes) ≡ chunks k bytes
 unfolding chunks
@@ -32,14 +29,14 @@ drop-chunks (suc i) (suc n) bytes h =
     let less : n - i ≡ suc n - suc i = omega arith in
     drop-chunks i n (drop entrySize bytes) (le-of-suc-le-suc h)
     ∙ ap₂ (λ (m : ℕ) (rest : List ℕ). chunks m rest) less
-    (drop-drop (entrySize * i) entrySize bytes ∙ ap (λ (offset : ℕ). drop offset bytes) (next-offset i))
+    (drop-drop (entrySize * i) entrySize bytes ∙ ap (λ (offset : ℕ). drop offset bytes) (sym (suc-entries i)))
 
 pub joined-chunks : (k : ℕ) (bytes : List ℕ) → joined (chunks k bytes) ≡ take (entrySize * k) bytes
 unfolding chunks
 joined-chunks zero bytes = refl
 joined-chunks (suc k) bytes =
     ap (λ (rest : List ℕ). take entrySize bytes ++ rest) (joined-chunks k (drop entrySize bytes))
-    ∙ sym (take-add entrySize (entrySize * k) bytes) ∙ ap (λ (n : ℕ). take n bytes) (next-offset k)
+    ∙ sym (take-add entrySize (entrySize * k) bytes) ∙ ap (λ (n : ℕ). take n bytes) (sym (suc-entries k))
 
 -- ---- of an image
 

@@ -1,29 +1,19 @@
--- Laws of words: what is left of repeated bytes; numbers digit by digit, and that none is over its bound.
+-- Laws of words: numbers digit by digit, and that none is over its bound.
 -- Assumes nothing.
 use mathlib.Core.Path.{_≡_, refl}
 use mathlib.Core.Bool.{Bool, true, false, _&&_, cond}
 use mathlib.Core.List.{List, [], _∷_}
-use Prim.Native.Nat.{ℕ, zero, suc, _+_, _-_, _*_, _/_, _<_, _≤_}
-use native.Mathlib.Numerals.{add-one, unary-clauses}
+use Prim.Native.Nat.{ℕ, _+_, _-_, _*_, _/_, _<_, _≤_}
+use native.Mathlib.Numerals.{add-one}
 use native.Mathlib.Nat.{le-div-iff-mul-le, div-lt-iff-lt-mul}
 use native.Mathlib.Omega.{arith}
 use lib.Dec.{eqb, ltb, leb}
-use lib.ListN.{length, getD, drop, replicate}
+use lib.ListN.{length, getD, drop}
 use lib.Seq.{drop-cons, drop-length}
 use borrow.Author.Tests.{lt-ltb, le-ltb, le-leb, lt-leb, leb-true}
 use Rattle.sector.specs.Layout.{sameBytes}
 use Rattle.request.specs.declared.Number.{Number}
 use Rattle.request.specs.Words.{number, noNumber, digitOf, digitsFrom, digitsOf, isHex, numberOf, Name, orNamed, typeNames, namedAmong, typeOf}
-
--- ---- repeated bytes
-
-sub-zero : (n : ℕ) → 0 - n ≡ 0
-sub-zero n = omega arith
-
-pub drop-replicate : (k n a : ℕ) → drop k (replicate n a) ≡ replicate (n - k) a
-drop-replicate zero n a = simp unary-clauses
-drop-replicate (suc k) zero a = rw (sub-zero (suc k))
-drop-replicate (suc k) (suc n) a = simp unary-clauses (drop-replicate k n a)
 
 -- ---- numbers
 

@@ -1,14 +1,14 @@
--- Laws of the sector's definitions, in the order of specs/: Layout, Answers, Map; behind Layout, bytes laid over others and copied.
+-- Laws of the sector's definitions, in the order of specs/: Layout, Answers, Map, Item; behind Layout, bytes laid over others, repeated and copied.
 -- Not here: what a run of marks does to each state (Marks).
 -- Assumes nothing.
 use mathlib.Core.Path.{_≡_, refl, sym, ap, _∙_}
 use mathlib.Core.Bool.{Bool, true, false, _&&_, not, cond, and-false, and-eq-true-iff}
 use mathlib.Core.List.{List, [], _∷_, _++_, append-nil}
-use Prim.Native.Nat.{ℕ, zero, suc, _+_, _*_, _/_, _%_, _^_, _<_, _≤_}
-use native.Mathlib.Nat.{zero-add, le-of-suc-le-suc, not-suc-le-zero, div-one, div-lt-iff-lt-mul, pow-suc, pow-succ'}
+use Prim.Native.Nat.{ℕ, zero, suc, _+_, _-_, _*_, _/_, _%_, _^_, _<_, _≤_}
+use native.Mathlib.Nat.{zero-add, le-of-suc-le-suc, not-suc-le-zero, div-one, div-lt-iff-lt-mul, pow-suc, pow-succ', sub-zero}
 use native.Mathlib.Numerals.{add-one}
 use native.Mathlib.Omega.{arith}
-use lib.ListN.{length, getD, set, take, drop, length-append, length-take, length-drop, length-set, drop-of-length-le}
+use lib.ListN.{length, getD, set, take, drop, replicate, length-append, length-take, length-drop, length-set, drop-of-length-le}
 use lib.Pow.{pow-add}
 use lib.Dec.{eqb}
 use lib.Seq.{drop-cons, drop-length, drop-drop, take-at, getD-take, paste-suc}
@@ -20,6 +20,7 @@ use Rattle.sector.specs.declared.EntryMapState.the-variants.{Empty, Writ
 use Rattle.sector.specs.Layout.{entriesPerPage, entrySize, itemsOffset, number, littleEndian, field, sameBytes, entryAt, chunks, entriesOf}
 use Rattle.sector.specs.Answers.{Check, numberOf, refusal, accepted}
 use Rattle.sector.specs.Map.{bitsOf, stateAt, unpack, statesOf, countIn, statistics, mark, markRange}
+use Rattle.sector.specs.Item.{itemBytes, sizedData}
 
 -- ---- little-endian numbers
 
@@ -61,6 +62,10 @@ same-bytes-end xs ys k e f = rw (e, drop-length xs, f, drop-length ys)
 
 -- ---- the entries of an image
 
+-- one entry more
+pub suc-entries : (n : ℕ) → 32 * suc n ≡ 32 + 32 * n
+suc-entries n = omega arith
+
 pub length-chunks : (n : ℕ) (bytes : List ℕ) → length (chunks n bytes) ≡ n
 unfolding chunks
 length-chunks zero bytes = refl
@@ -71,9 +76,8 @@ unfolding chunks
 getD-chunks zero i bytes h = absurd (not-suc-le-zero h)
 getD-chunks (suc n) zero bytes h = refl
 getD-chunks (suc n) (suc i) bytes h =
-    let next : entrySize + entrySize * i ≡ entrySize * suc i = omega arith in
     getD-chunks n i (drop entrySize bytes) (le-of-suc-le-suc h)
-    ∙ ap (take entrySize) (drop-drop (entrySize * i) entrySize bytes ∙ ap (λ (offset : ℕ). drop offset bytes) next)
+    ∙ ap (take entrySize) (drop-drop (entrySize * i) entrySize bytes ∙ ap (λ (offset : ℕ). drop offset bytes) (sym (suc-entries i)))
 
 pub length-entriesOf : (image : List ℕ) → length (entriesOf image) ≡ entriesPerPage
 length-entriesOf image = length-chunks entriesPerPage (drop itemsOffset image)
@@ -82,7 +86,7 @@ pub getD-entriesOf : (image : List ℕ) (i : ℕ) → i < entriesPerPage → get
 getD-entriesOf image i h =
     getD-chunks entriesPerPage i (drop itemsOffset image) h ∙ ap (take entrySize) (drop-drop (entrySize * i) itemsOffset image)
 
--- ---- bytes laid over others, as `bytes::put` leaves them; bytes copied one at a time
+-- ---- bytes laid over others, as `bytes::put` leaves them; bytes repeated; bytes copied one at a time
 
 abbrev pub over : List ℕ → ℕ → List ℕ → List ℕ
 over out offset bytes = take offset out ++ (bytes ++ drop (offset + length bytes) out)
@@ -94,6 +98,12 @@ over-both out first second n e h =
     let rest = drop (0 + length first) out in
     let fits : length (first ++ rest) ≤ n + length second = simp (length-append, length-drop) (omega arith) in
     rw (take-at first rest n e, drop-of-length-le (first ++ rest) fits, append-nil second)
+
+pub drop-replicate : {A : Type 0} (k n : ℕ) (x : A) → drop k (replicate n x) ≡ replicate (n - k) x
+drop-replicate zero n x = rw (sub-zero n)
+drop-replicate (suc k) zero x = let none : 0 - suc k ≡ 0 = omega arith in rw none
+drop-replicate (suc k) (suc n) x =
+    let less : n - k ≡ suc n - suc k = omega arith in drop-replicate k n x ∙ ap (λ (m : ℕ). replicate m x) less
 
 -- k bytes of a part are in, and the next one is stored
 pub copied-next : (part into : List ℕ) (k : ℕ) → k < length part → k < length into
@@ -198,3 +208,15 @@ pub length-markRange : (s : EntryMapState) (i n : ℕ) (map : List ℕ) → leng
 unfolding markRange
 length-markRange s i zero map = refl
 length-markRange s i (suc n) map = length-markRange s (suc i) n (mark s i map) ∙ simp length-set
+
+-- ---- the bytes of a new item
+
+-- a whole key and whole data fill the entry
+pub length-itemBytes : (namespace type span chunk : ℕ) (key bytes : List ℕ) → length key ≡ 16 → length bytes ≡ 8
+    → length (itemBytes namespace type span chunk key bytes) ≡ 32
+unfolding itemBytes
+length-itemBytes namespace type span chunk key bytes k b = omega (arith, length-append key bytes)
+
+pub length-sizedData : (payload : List ℕ) → length (sizedData payload) ≡ 8
+unfolding sizedData
+length-sizedData payload = refl

@@ -9,8 +9,9 @@ use borrow.Author.Tests.{ltb-true}
 use lib.Dec.{ltb}
 use lib.ListN.{length}
 use lib.Seq.{take-length}
+use Rattle.sector.proofs.Laws.{drop-replicate}
 use Rattle.request.specs.Words.{isKey}
-use Rattle.request.proofs.Laws.{and-right, drop-replicate}
+use Rattle.request.proofs.Laws.{and-right}
 use Rattle.request.proofs.key_bytes.Statement.{statement}
 use Rattle.request.proofs.key_bytes.Tie as tie
 
@@ -34,7 +35,7 @@ returns : tie.Need-returns
 returns c =
     let text = c .before .before .before .before .before .before .args .text .now in
     let key = sym (c .before .before .before .before .is-key .ensures) ∙ c .before .before .before .if1 .taken in
-    c .before .copy .ensures .1 ∙ rw (key, take-length text, drop-replicate (length text) 16 0)
+    c .before .copy .ensures .1 ∙ rw (key, take-length text, drop-replicate {A = ℕ} (length text) 16 0)
 
 returns-2 : tie.Need-returns-2
 returns-2 c = rw (sym (c .before .is-key .ensures) ∙ c .if1 .left)

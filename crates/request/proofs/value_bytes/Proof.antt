@@ -7,8 +7,8 @@ use borrow.Author.Needs.{needs}
 use lib.ListN.{length, take, drop, replicate, length-take}
 use lib.Seq.{take-all, take-length, length-take-le}
 use Rattle.sector.specs.Layout.{littleEndian}
+use Rattle.sector.proofs.Laws.{drop-replicate}
 use Rattle.request.specs.Words.{valueBytes}
-use Rattle.request.proofs.Laws.{drop-replicate}
 use Rattle.request.proofs.value_bytes.Statement.{statement}
 use Rattle.request.proofs.value_bytes.Tie as tie
 
@@ -29,7 +29,7 @@ narrowed width value n all result h e m copied =
       e,
       take-length (take width (littleEndian 8 value)),
       length-take-le width (littleEndian 8 value) (omega arith),
-      drop-replicate width 8 0xFF,
+      drop-replicate {A = ℕ} width 8 0xFF,
     )
 
 eight-bytes-requires : tie.Need-eight-bytes-requires
