@@ -1,7 +1,7 @@
 -- Laws of copy in: what its checks leave known once they accept, and where the item's bytes lie in the source.
 -- Assumes nothing.
-use mathlib.Core.Path.{_≡_, refl, sym, ap}
-use mathlib.Core.Bool.{Bool, true, false, _||_, false≢true}
+use mathlib.Core.Path.{_≡_, ap}
+use mathlib.Core.Bool.{true, false}
 use mathlib.Core.List.{List, _++_}
 use Prim.Native.Nat.{ℕ, _+_, _-_, _*_, _≤_, _<_}
 use native.Mathlib.Nat.{pos-of-ne-zero}
@@ -10,6 +10,7 @@ use lib.Dec.{eqb, ltb}
 use lib.ListN.{length, getD, take, drop}
 use borrow.Author.Tests.{eqb-true, eqb-false, ltb-true, ltb-false, not-false}
 use Rattle.flash.specs.Flash.{units}
+use Rattle.flash.proofs.Laws.{neither}
 use Rattle.load.proofs.Laws.{accepted-at}
 use Rattle.page.specs.declared.ThinPage.{ThinPage}
 use Rattle.page.specs.Record.{nextFree, free, fitToUse, withItem}
@@ -22,11 +23,6 @@ use Rattle.sector.specs.Map.{mapUnits}
 use Rattle.copy.specs.Copy.{copyChecks, copiedBytes, copyPlan, withCopy}
 
 -- ---- the checks
-
--- neither test of two holds
-neither : (a b : Bool) → (a || b) ≡ false → (a ≡ false) × (b ≡ false)
-neither true b h = absurd (false≢true (sym h))
-neither false b h = (refl, h)
 
 -- what passes all of copy's checks
 pub record CopyFits (image : List ℕ) (page : ThinPage) (source : List ℕ) (i : ℕ) : Type 0 where

@@ -2,22 +2,24 @@
 --
 -- In order: the list without an index; entries that are Written; what erase's checks leave known, and its plan.
 -- Assumes nothing.
-use mathlib.Core.Path.{_≡_, refl, sym, ap, _∙_}
-use mathlib.Core.Bool.{Bool, true, false, _&&_, _||_, cond, false≢true}
-use mathlib.Core.List.{List, [], _∷_, _++_, append-assoc, append-nil}
+use mathlib.Core.Path.{_≡_, refl, ap, _∙_}
+use mathlib.Core.Bool.{Bool, true, false, _&&_, cond}
+use mathlib.Core.List.{List, [], _∷_, _++_, append-nil}
 use Prim.Native.Nat.{ℕ, suc, _+_, _-_, _≤_, _<_}
 use native.Mathlib.Numerals.{add-one}
 use native.Mathlib.Nat.{pos-of-ne-zero}
 use native.Mathlib.Omega.{arith}
 use lib.Dec.{eqb, ltb}
-use lib.ListN.{length, take, drop, getD, set, replicate, length-append}
-use lib.Seq.{take-suc, drop-cons, set-at, take-all}
+use lib.ListN.{length, take, drop, getD, set, length-append}
+use lib.Seq.{take-suc, drop-cons, take-all}
 use borrow.Author.Tests.{eq-eqb, ne-eqb, eqb-true, eqb-false, ltb-false, not-false}
 use Rattle.flash.specs.Flash.{every}
+use Rattle.flash.proofs.Laws.{neither}
 use Rattle.load.proofs.Laws.{accepted-at}
 use Rattle.page.specs.declared.Listed.{Listed}
 use Rattle.page.specs.declared.ThinPage.{ThinPage}
 use Rattle.page.specs.Record.{noItem, without, padded, fitToUse, withErased}
+use Rattle.page.proofs.Laws.{padded-more}
 use Rattle.page.proofs.Plans.{length-map-units-le}
 use Rattle.sector.specs.declared.Answer.the-variants.{Done}
 use Rattle.sector.specs.declared.EntryMapState.the-variants.{Empty, Written, Erased}
@@ -64,12 +66,7 @@ pub padded-next : (places : List Listed) (place : Listed) {list : List Listed} {
     → n ≡ length places → list ≡ padded places → n < entriesPerPage
     → (n + 1 ≡ length (places ++ (place ∷ []))) × (set list n place ≡ padded (places ++ (place ∷ [])))
 padded-next places place counts holds h =
-    let left : entriesPerPage - length places ≡ suc (entriesPerPage - (length places + 1)) = omega arith in
-    let behind = replicate (entriesPerPage - (length places + 1)) noItem in (
-      omega (arith, length-append places (place ∷ [])),
-      rw (holds, counts, left, length-append places (place ∷ []), append-assoc places (place ∷ []) behind)
-          (set-at places noItem behind place (length places) refl),
-    )
+    (omega (arith, length-append places (place ∷ [])), rw (holds, counts) (padded-more places place (omega arith)))
 
 -- ---- entries that are Written
 
@@ -97,10 +94,6 @@ pub record EraseFits (image : List ℕ) (page : ThinPage) (index span : ℕ) : T
   pub some : 1 ≤ span
   pub spans : index + span ≤ entriesPerPage
   pub written : allWritten (page .map) index span ≡ true
-
-neither : (a b : Bool) → (a || b) ≡ false → (a ≡ false) × (b ≡ false)
-neither true b h = absurd (false≢true (sym h))
-neither false b h = (refl, h)
 
 pub erase-fits : (image : List ℕ) (page : ThinPage) (index span : ℕ) → accepted (eraseChecks image page index span) ≡ true
     → EraseFits image page index span

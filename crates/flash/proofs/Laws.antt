@@ -1,10 +1,10 @@
 -- Laws of programming (specs/Flash.antt).
 --
--- In order: lists; bytes below 256; tests of a whole list; bytes at an address; new bytes that only clear bits; the units of a write;
+-- In order: lists; bytes below 256; two tests, and tests of a whole list; bytes at an address; new bytes that only clear bits; the units of a write;
 -- units done one after the other; where units lie, and what they leave alone.
 -- Assumes nothing.
 use mathlib.Core.Path.{_≡_, refl, sym, ap, ap₂, _∙_}
-use mathlib.Core.Bool.{Bool, true, false, _&&_, cond, false≢true, and-eq-true-iff, and-assoc}
+use mathlib.Core.Bool.{Bool, true, false, _&&_, _||_, cond, false≢true, and-eq-true-iff, and-assoc}
 use mathlib.Core.List.{List, [], _∷_, _++_, append-assoc}
 use mathlib.Core.Logic.{_⊎_, inl, inr}
 use Prim.Native.Nat.{ℕ, zero, suc, _≤_, _<_, _+_, _-_, _*_, _/_, _%_, min, zero-le, suc-le-suc}
@@ -55,7 +55,12 @@ pub bytes-ones : (n : ℕ) → Bytes (replicate n 0xFF)
 bytes-ones zero = bytes-nil
 bytes-ones (suc n) = bytes-cons {byte = 0xFF} (omega arith) (bytes-ones n)
 
--- ---- tests of a whole list
+-- ---- two tests; tests of a whole list
+
+-- neither of two holds
+pub neither : (a b : Bool) → (a || b) ≡ false → (a ≡ false) × (b ≡ false)
+neither true b h = absurd (false≢true (sym h))
+neither false b h = (refl, h)
 
 pub every-append : {A : Type 0} (test : A → Bool) (xs ys : List A) → every test (xs ++ ys) ≡ (every test xs && every test ys)
 every-append test [] ys = refl

@@ -9,10 +9,11 @@ use native.Mathlib.Numerals.{add-one}
 use native.Mathlib.Omega.{arith}
 use lib.Dec.{eqb}
 use lib.ListN.{length, take, drop, set, replicate, length-drop, length-set, length-replicate, length-append, take-append-drop, drop-of-length-le}
-use lib.Seq.{take-add, drop-drop, take-at, take-set-le, drop-set-add, take-all, set-append-seam}
+use lib.Seq.{take-add, drop-drop, take-at, take-set-le, drop-set-add, take-all}
 use Rattle.flash.proofs.Laws.{Bytes}
 use Rattle.page.specs.declared.Listed.{Listed}
-use Rattle.page.specs.Record.{noItem, padded}
+use Rattle.page.specs.Record.{padded}
+use Rattle.page.proofs.Laws.{padded-more}
 use Rattle.sector.specs.declared.EntryMapState.{EntryMapState}
 use Rattle.sector.specs.declared.EntryMapState.the-variants.{Empty, Written, Erased, Illegal}
 use Rattle.sector.specs.Item.{hashOfItem}
@@ -299,15 +300,6 @@ listed-end image map listing i long e to =
     let short : length (statesOf map) ≤ i = omega (arith, length-statesOf map long) in
     let none : drop (listing .len) all ≡ [] = to .left ∙ rw (drop-of-length-le (statesOf map) short) in
     to .places ∙ ap listingOf (sym (append-nil (take (listing .len) all)) ∙ (rw none at (take-append-drop (listing .len) all)))
-
--- one place more
-padded-more : (places : List Listed) (place : Listed) → length places < 126
-    → set (padded places) (length places) place ≡ padded (places ++ (place ∷ []))
-padded-more places place h =
-    let free : 126 - length places ≡ suc (125 - length places) = omega arith in
-    let left : 126 - (length places + 1) ≡ 125 - length places = omega arith in
-    rw (free, set-append-seam places noItem (replicate (125 - length places) noItem) place, length-append places (place ∷ []), left)
-    (sym (append-assoc places (place ∷ []) (replicate (125 - length places) noItem)))
 
 listing-more : (all rest : List Listed) (listing : Listing) (place : Listed) → listing .len < 126
     → listing ≡ listingOf (take (listing .len) all) → drop (listing .len) all ≡ place ∷ rest

@@ -1,34 +1,44 @@
--- Laws of the record: tests of a list's places one by one, and fitness clause by clause.
+-- Laws of the record: tests of a list's places one by one, one place more in use, and fitness clause by clause.
 -- Assumes nothing.
-use mathlib.Core.Path.{_≡_, ap, _∙_}
-use mathlib.Core.Bool.{Bool, true, false, _&&_, and-eq-true-iff}
-use mathlib.Core.List.{List}
-use Prim.Native.Nat.{ℕ, _+_, _≤_, _<_}
+use mathlib.Core.Path.{_≡_, sym, ap, _∙_}
+use mathlib.Core.Bool.{Bool, true, false, and-eq-true-iff}
+use mathlib.Core.List.{List, [], _∷_, _++_, append-assoc}
+use Prim.Native.Nat.{ℕ, suc, _+_, _-_, _≤_, _<_}
 use native.Mathlib.Numerals.{add-one}
-use lib.ListN.{length, getD, drop}
-use lib.Seq.{drop-cons}
+use native.Mathlib.Omega.{arith}
+use lib.ListN.{length, getD, drop, set, replicate, length-append}
+use lib.Seq.{set-append-seam}
 use borrow.Author.Tests.{le-leb, leb-true}
 use Rattle.flash.specs.Flash.{every}
+use Rattle.flash.proofs.Laws.{every-drop}
 use Rattle.sector.specs.declared.EntryMapState.the-variants.{Written}
 use Rattle.sector.specs.Layout.{entriesPerPage}
 use Rattle.sector.specs.Map.{statesOf, countIn}
+use Rattle.page.specs.declared.Listed.{Listed}
 use Rattle.page.specs.declared.ThinPage.{ThinPage}
-use Rattle.page.specs.Record.{nextFree, placeFits, placeZero, inUse, countsFit, lengthFits, writtenFits, listedFit, behindZero, blankFits, fitToUse}
+use Rattle.page.specs.Record.{nextFree, noItem, padded, placeFits, placeZero, inUse, countsFit, lengthFits, writtenFits, listedFit, behindZero, blankFits, fitToUse}
 
 -- ---- every
 
 module _ {A : Type 0} (test : A → Bool) (xs : List A) (k : ℕ) (d : A) (inside : k < length xs) where
-  -- the rest of a list from k on: its first element, and what is behind it
-  pub every-drop : every test (drop k xs) ≡ (test (getD xs k d) && every test (drop (k + 1) xs))
-  every-drop = rw (add-one k, drop-cons xs k d inside)
-
   -- one that passes is left behind
   pub every-drop-true : test (getD xs k d) ≡ true → every test (drop k xs) ≡ every test (drop (k + 1) xs)
-  every-drop-true h = every-drop ∙ ap (λ (b : Bool). b && every test (drop (k + 1) xs)) h
+  every-drop-true h = rw (add-one k, every-drop test xs k d inside, h)
 
   -- one that fails decides
   pub every-drop-false : test (getD xs k d) ≡ false → every test (drop k xs) ≡ false
-  every-drop-false h = every-drop ∙ ap (λ (b : Bool). b && every test (drop (k + 1) xs)) h
+  every-drop-false h = rw (every-drop test xs k d inside, h)
+
+-- ---- the list
+
+-- one place more in use
+pub padded-more : (places : List Listed) (place : Listed) → length places < 126 → set (padded places) (length places) place ≡ padded (places ++ (place ∷ []))
+padded-more places place h =
+    let gap : 126 - length places ≡ suc (126 - length (places ++ (place ∷ []))) = omega (arith, length-append places (place ∷ [])) in
+    let rest = replicate (126 - length (places ++ (place ∷ []))) noItem in
+    ap (λ (n : ℕ). set (places ++ replicate n noItem) (length places) place) gap
+    ∙ set-append-seam places noItem rest place
+    ∙ sym (append-assoc places (place ∷ []) rest)
 
 -- ---- fitness
 

@@ -4,16 +4,17 @@
 -- Assumes nothing.
 use mathlib.Core.Path.{_≡_, refl, sym, ap, _∙_}
 use mathlib.Core.Bool.{Bool, true, false, cond}
-use mathlib.Core.List.{List, [], _∷_, _++_, append-assoc, append-nil}
-use Prim.Native.Nat.{ℕ, zero, suc, _+_, _-_, _*_, _≤_, _<_}
+use mathlib.Core.List.{List, [], _∷_, _++_, append-nil}
+use Prim.Native.Nat.{ℕ, zero, suc, _+_, _*_, _≤_, _<_}
 use native.Mathlib.Nat.{add-zero}
 use native.Mathlib.Omega.{arith}
 use lib.Dec.{eqb}
 use lib.ListN.{length, take, drop, getD, set, replicate, length-append, length-drop}
-use lib.Seq.{take-append-le, drop-append-le, drop-drop, set-append-seam, getD-take, getD-drop, take-at}
+use lib.Seq.{take-append-le, drop-append-le, drop-drop, getD-take, getD-drop, take-at}
 use Rattle.page.specs.declared.Listed.{Listed}
 use Rattle.page.specs.declared.ThinPage.{ThinPage}
-use Rattle.page.specs.Record.{noItem, padded, withItem}
+use Rattle.page.specs.Record.{padded, withItem}
+use Rattle.page.proofs.Laws.{padded-more}
 use Rattle.sector.specs.declared.EntryMapState.{EntryMapState}
 use Rattle.sector.specs.declared.EntryMapState.the-variants.{Empty, Written, Erased}
 use Rattle.sector.specs.declared.PageState.the-variants.{Full}
@@ -115,15 +116,6 @@ listed-more (item j group ∷ items) i entry new = by-test (eqb (namespaceOf (he
         ≡ cond none (listedItems items) (first ∷ listedItems items) ++ more
     by-test true e = e
     by-test false e = ap (λ (places : List Listed). first ∷ places) e
-
--- the first place that is not in use
-padded-more : (places : List Listed) (place : Listed) → length places < 126 → set (padded places) (length places) place ≡ padded (places ++ (place ∷ []))
-padded-more places place h =
-    let gap : 126 - length places ≡ suc (126 - length (places ++ (place ∷ []))) = omega (arith, length-append places (place ∷ [])) in
-    let rest = replicate (126 - length (places ++ (place ∷ []))) noItem in
-    ap (λ (n : ℕ). set (places ++ replicate n noItem) (length places) place) gap
-    ∙ set-append-seam places noItem rest place
-    ∙ sym (append-assoc places (place ∷ []) rest)
 
 list-after : (unlisted : Bool) (places : List Listed) (place : Listed) → length places < 126
     → cond unlisted (padded places) (set (padded places) (length places) place) ≡ padded (places ++ placed unlisted place)

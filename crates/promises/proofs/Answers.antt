@@ -13,6 +13,7 @@ use lib.ListN.{length, take}
 use lib.Seq.{take-all}
 use borrow.Author.Tests.{ltb-false, le-ltb, eqb-false}
 use Rattle.flash.specs.Flash.{Unit4, every}
+use Rattle.flash.proofs.Laws.{neither}
 use Rattle.page.specs.declared.ThinPage.{ThinPage}
 use Rattle.page.specs.Writing.{badImage, badRecord, notActive, outcome, imageAfter, stops}
 use Rattle.page.proofs.Checks.{accepted-head}
@@ -48,10 +49,6 @@ checks-refuse (putting (copied source i)) image page = refl
 checks-refuse (erasing index span) image page = refl
 checks-refuse (purging namespace) image page = refl
 
-pub or-false : (a b : Bool) → (a || b) ≡ false → (a ≡ false) × (b ≡ false)
-or-false true b h = absurd (false≢true (sym h))
-or-false false b h = (refl, h)
-
 pub accepted-both : (xs ys : List Check) → accepted (xs ++ ys) ≡ true → (accepted xs ≡ true) × (accepted ys ≡ true)
 accepted-both xs ys h = and-eq-true-iff (accepted xs) (accepted ys) .0 (sym (accepted-append xs ys) ∙ h)
 
@@ -63,7 +60,7 @@ copied-span source i image page h =
     let front : List Check =
     badImage image ∷ badImage source ∷ badRecord page ∷ notActive page ∷ (not (ltb i 126), CorruptedData) ∷ (not (loads (entryAt source i)), KeyNotFound) ∷ [] in
     let wrong = eqb span 0 || ltb 126 (i + span) in
-    let tests = or-false (eqb span 0) (ltb 126 (i + span)) (accepted-head wrong CorruptedData [] (accepted-both front ((wrong, CorruptedData) ∷ []) h .1)) in
+    let tests = neither (eqb span 0) (ltb 126 (i + span)) (accepted-head wrong CorruptedData [] (accepted-both front ((wrong, CorruptedData) ∷ []) h .1)) in
     (positive span (eqb-false span 0 (tests .0)), ltb-false 126 (i + span) (tests .1))
   where
     positive : (span : ℕ) → (span ≡ 0 → ⊥) → 1 ≤ span

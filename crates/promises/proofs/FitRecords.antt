@@ -13,7 +13,7 @@ use lib.ListN.{length, take, drop, getD, set, replicate, length-take}
 use lib.Seq.{take-append-seam, drop-append-seam, take-suc-set, drop-set-lt}
 use borrow.Author.Tests.{ltb-true, ltb-false, lt-ltb, not-false}
 use Rattle.flash.specs.Flash.{every}
-use Rattle.flash.proofs.Laws.{Bytes, bytes-nil, bytes-cons, every-append, every-drop}
+use Rattle.flash.proofs.Laws.{Bytes, bytes-nil, bytes-cons, every-append, every-drop, neither}
 use Rattle.page.specs.declared.Listed.{Listed}
 use Rattle.page.specs.declared.Outcome.{Outcome}
 use Rattle.page.specs.declared.ThinPage.{ThinPage}
@@ -36,7 +36,7 @@ use Rattle.append.specs.Append.{singleChecks, spanFor, variableChecks}
 use Rattle.copy.specs.Copy.{copyChecks}
 use Rattle.erase.specs.Erase.{isErasable, allWritten, eraseChecks}
 use Rattle.promises.specs.Promises.{single, variable, copied, Call, initialising, markingFull, putting, erasing, purging, checksOf, planOf, newOf, earlierChecks, AsInCode, DoneHandsBackFit}
-use Rattle.promises.proofs.Answers.{checks-refuse, or-false, accepted-both, copied-span, done-only, told}
+use Rattle.promises.proofs.Answers.{checks-refuse, accepted-both, copied-span, done-only, told}
 
 -- ---- states
 
@@ -243,7 +243,7 @@ new-fit (erasing index span) image page code h =
     let range = accepted-head wrong CorruptedData ((missing, NotWritten) ∷ []) (u .rest) in
     let marks = accepted-head missing NotWritten [] (accepted-tail wrong CorruptedData ((missing, NotWritten) ∷ []) (u .rest)) in
     erased-fit page index span code (fit-clauses page (u .fit)) (known-state isErasable refl (page .state) (not-false (isErasable (page .state)) (u .state)))
-    (ltb-false 126 (index + span) (or-false (eqb span 0) (ltb 126 (index + span)) range .1)) (not-false (allWritten (page .map) index span) marks)
+    (ltb-false 126 (index + span) (neither (eqb span 0) (ltb 126 (index + span)) range .1)) (not-false (allWritten (page .map) index span) marks)
 new-fit (purging namespace) image page code h =
     not-false (fitToUse page) (accepted-head (not (fitToUse page)) BadRecord [] (accepted-tail (badImage image .0) BadImage (badRecord page ∷ []) h))
 
