@@ -1,7 +1,7 @@
 -- What the walk's loop has done up to an index, and what is left of it: in the map, of the refused headers, of the list.
 -- Assumes nothing.
 use mathlib.Core.Path.{_≡_, refl, sym, ap, ap₂, _∙_}
-use mathlib.Core.Bool.{Bool, true, false, and-eq-true-iff, false≢true}
+use mathlib.Core.Bool.{Bool, true, false, and-eq-true-iff}
 use mathlib.Core.List.{List, [], _∷_, _++_, append-assoc, append-nil}
 use Prim.Native.Nat.{ℕ, zero, suc, _+_, _-_, _<_, _≤_}
 use native.Mathlib.Nat.{le-of-suc-le-suc, not-suc-le-zero, le-refl, add-zero}
@@ -15,12 +15,12 @@ use Rattle.page.specs.declared.Listed.{Listed}
 use Rattle.page.specs.Record.{padded}
 use Rattle.page.proofs.Laws.{padded-more}
 use Rattle.sector.specs.declared.EntryMapState.{EntryMapState}
-use Rattle.sector.specs.declared.EntryMapState.the-variants.{Empty, Written, Erased, Illegal}
+use Rattle.sector.specs.declared.EntryMapState.the-variants.{Written, Erased}
 use Rattle.sector.specs.Item.{hashOfItem}
 use Rattle.sector.specs.Layout.{entriesPerPage, entryAt, entriesOf, namespaceOf}
 use Rattle.sector.specs.Map.{unpack, statesOf, stateAt, markRange}
 use Rattle.sector.proofs.Laws.{drop-replicate, length-statesOf, length-markRange, length-entriesOf}
-use Rattle.sector.proofs.Marks.{marked, both, take-marked, drop-marked, marked-erased, statesOf-markRange, unpack-markRange, bytes-markRange}
+use Rattle.sector.proofs.Marks.{marked, take-marked, drop-marked, marked-erased, statesOf-markRange, unpack-markRange, bytes-markRange}
 use Rattle.opening.specs.declared.Listing.{Listing}
 use Rattle.reading.specs.declared.Verdict.{Verdict}
 use Rattle.reading.specs.declared.Verdict.the-variants.{NotAnItem, RefusedEntry, RefusedItem, Kept}
@@ -28,6 +28,7 @@ use Rattle.reading.specs.Reading.{Item, isUsable, usable, verdictAt, stepsOver,
 use Rattle.opening.specs.Opening.{isRefusedItem, refusedHeaders, listedItems}
 use Rattle.opening.specs.Steps.{markedBy, listingOf, withItem, listedBy}
 use Rattle.reading.proofs.Entries.{states-from, entries-from}
+use Rattle.reading.proofs.Midway.{both-written}
 use Rattle.opening.proofs.Steps.{walk-skip, refused-headers-skip, kept-skip, steps-over-le, kept-usable}
 
 -- ---- lists done so far
@@ -129,12 +130,6 @@ drop-marked-from : (s : EntryMapState) (i n : ℕ) (states : List EntryMapState)
 drop-marked-from s zero n states = refl
 drop-marked-from s (suc i) n [] = refl
 drop-marked-from s (suc i) n (t ∷ states) = drop-marked-from s i n states
-
-both-written : (t : EntryMapState) → isUsable t ≡ true → both t Written ≡ Written
-both-written Empty e = refl
-both-written Written e = refl
-both-written Erased e = absurd (false≢true e)
-both-written Illegal e = absurd (false≢true e)
 
 marked-usable : (k : ℕ) (states : List EntryMapState) → k ≤ length states → usable k states ≡ true
     → take k (marked Written zero k states) ≡ replicate k Written

@@ -4,7 +4,7 @@
 -- Assumes nothing.
 use mathlib.Core.Path.{_≡_, refl, sym, ap, _∙_, subst}
 use mathlib.Core.Bool.{Bool, true, false}
-use mathlib.Core.List.{List, [], _∷_, _++_, List·Memᴰ}
+use mathlib.Core.List.{List, [], _∷_, _++_, List·Memᴰ, head-eq-of-cons-eq, tail-eq-of-cons-eq}
 use mathlib.Core.Option.{none}
 use Prim.Native.Nat.{ℕ, suc, _+_, _-_, _*_, _≤_, _<_}
 use native.Mathlib.Numerals.{add-one}
@@ -51,12 +51,6 @@ payload-fits entry entries typed h =
 
 -- ---- an item that the reading keeps
 
-first-is : {A : Type 0} {x y : A} {xs ys : List A} → x ∷ xs ≡ y ∷ ys → x ≡ y
-first-is e = cc
-
-rest-is : {A : Type 0} {x y : A} {xs ys : List A} → x ∷ xs ≡ y ∷ ys → xs ≡ ys
-rest-is e = cc
-
 module _ {index : ℕ} {group : Entries} (image : List ℕ) (size : length image ≡ 4096) (found : WholeAt index group (entriesOf image)) where
   abbrev k : ℕ
   k = length (found .new)
@@ -75,10 +69,10 @@ module _ {index : ℕ} {group : Entries} (image : List ℕ) (size : length image
   lies = rw (entries-from image (mapOf image) index (map-size image size) inside, group-long) at (found .bytes) ∙ found .header-first
 
   entry-is : entryAt image index ≡ found .header
-  entry-is = first-is lies
+  entry-is = head-eq-of-cons-eq lies
 
   behind-is : take k (drop (suc index) (entriesOf image)) ≡ found .new
-  behind-is = rw (add-one index) at (rest-is lies)
+  behind-is = rw (add-one index) at (tail-eq-of-cons-eq lies)
 
   loads-header : loads (found .header) ≡ true
   loads-header = header-loads (found .header) k (found .whole .header)
@@ -169,6 +163,6 @@ loads-data image page items h request payload ok index typed m output room =
     let k = spanFor (length payload) - 1 in
     let entries = variableHeader request payload ∷ payloadEntries k payload in
     let found = find image size (subst (List·Memᴰ (item index entries)) (sym (finds-what-was-put image page items h .0)) m) in
-    let header : variableHeader request payload ≡ found .header = first-is (found .header-first) in
-    let new : payloadEntries k payload ≡ found .new = rest-is (found .header-first) in
+    let header : variableHeader request payload ≡ found .header = head-eq-of-cons-eq (found .header-first) in
+    let new : payloadEntries k payload ≡ found .new = tail-eq-of-cons-eq (found .header-first) in
     data-loads image size found request payload ok typed header new output room

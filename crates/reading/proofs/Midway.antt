@@ -1,11 +1,11 @@
 -- A page midway: some of its marks are already those that opening leaves, and bytes of entries that are not read may have changed. Opened, it comes
 -- to the same.
 --
--- In order: states that come out alike behind the walk; the page midway; its walk comes out alike, and it keeps the same items.
+-- In order: a state marked Written; states that come out alike behind the walk; the page midway; its walk comes out alike, and it keeps the same items.
 -- The theorems about opening twice, about a cut during opening and about the bytes of Erased entries each show that a page is midway.
 -- Assumes nothing.
 use mathlib.Core.Path.{_≡_, refl, sym, ap, _∙_}
-use mathlib.Core.Bool.{false, _&&_}
+use mathlib.Core.Bool.{true, false, _&&_}
 use mathlib.Core.List.{List, [], _∷_}
 use mathlib.Core.Option.{some}
 use Prim.Native.Nat.{ℕ, zero, suc}
@@ -13,8 +13,18 @@ use lib.ListN.{length, take}
 use Rattle.flash.specs.Flash.{allOnes}
 use Rattle.sector.specs.declared.EntryMapState.{EntryMapState}
 use Rattle.sector.specs.declared.EntryMapState.the-variants.{Empty, Written, Erased, Illegal}
-use Rattle.reading.specs.Reading.{Reason, headerRefusal, walk, Item, item, keptFrom, isFreeTail, shut, shutBeforeTail}
+use Rattle.sector.proofs.Marks.{both}
+use Rattle.reading.specs.Reading.{Reason, headerRefusal, isUsable, walk, Item, item, keptFrom, isFreeTail, shut, shutBeforeTail}
 use Rattle.reading.proofs.Verdicts.{States, Entries, Good, Spoiled, verdict-refusedItem, verdict-keptItem}
+
+-- ---- states
+
+-- what a kept item covers is Written once it is marked
+pub both-written : (s : EntryMapState) → isUsable s ≡ true → both s Written ≡ Written
+both-written Empty u = refl
+both-written Written u = refl
+both-written Erased u = cc
+both-written Illegal u = cc
 
 -- ---- alike behind the walk
 

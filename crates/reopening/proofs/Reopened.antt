@@ -9,11 +9,11 @@ use lib.ListN.{length}
 use Rattle.flash.specs.Flash.{allOnes}
 use Rattle.sector.specs.declared.EntryMapState.{EntryMapState}
 use Rattle.sector.specs.declared.EntryMapState.the-variants.{Empty, Written, Erased, Illegal}
-use Rattle.sector.proofs.Marks.{both, both-erased, StatesClear, states-nil, states-cons}
-use Rattle.reading.specs.Reading.{isUsable, usable, verdictAt, stepsOver, markBehind, walk, keptFrom, isFreeTail, shutBeforeTail, openedStates}
+use Rattle.sector.proofs.Marks.{both-erased, StatesClear, states-nil, states-cons}
+use Rattle.reading.specs.Reading.{usable, verdictAt, stepsOver, markBehind, walk, keptFrom, isFreeTail, shutBeforeTail, openedStates}
 use Rattle.reading.proofs.Verdicts.{States, Entries, Good, verdict-refusedItem, verdict-keptItem}
 use Rattle.reopening.proofs.Course.{Course, ends, meetsEmpty, meetsErased, meetsIllegal, refusesEntry, refusesItem, keepsItem, erasesBehind, keepsBehind, goesOn, course}
-use Rattle.reading.proofs.Midway.{isErased, isIllegal, Midway, walk-zero, midway-alike, midway-kept}
+use Rattle.reading.proofs.Midway.{isErased, isIllegal, Midway, walk-zero, midway-alike, midway-kept, both-written}
 
 -- what opening leaves, from an entry on
 abbrev pub openedFrom : ℕ → EntryMapState → States → Entries → States
@@ -87,12 +87,6 @@ unfolding openedStates
 kept-openedStates i states entries l = midway-kept i (opened-midway (course states entries l))
 
 -- ---- bits only cleared
-
-pub both-written : (s : EntryMapState) → isUsable s ≡ true → both s Written ≡ Written
-both-written Empty u = refl
-both-written Written u = refl
-both-written Erased u = cc
-both-written Illegal u = cc
 
 clears-course : {k : ℕ} {mark : EntryMapState} {states : States} {entries : Entries} → Course k mark states entries
     → StatesClear states (openedFrom k mark states entries)

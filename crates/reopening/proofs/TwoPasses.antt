@@ -22,8 +22,8 @@ use Rattle.marks.specs.Marks.{upperCleared, firstPass}
 use Rattle.opening.specs.Opening.{refusedHeaders}
 use Rattle.reading.proofs.Verdicts.{States, Entries, Good, Spoiled, verdict-refusedItem, verdict-keptItem}
 use Rattle.reopening.proofs.Course.{Course, course}
-use Rattle.reading.proofs.Midway.{Gone, isErased, isIllegal, AllGone, gone-zero, gone-suc, Midway, midway-gone, walk-zero, midway-alike, midway-kept}
-use Rattle.reopening.proofs.Reopened.{openedFrom, both-written}
+use Rattle.reading.proofs.Midway.{Gone, isErased, isIllegal, AllGone, gone-zero, gone-suc, Midway, midway-gone, walk-zero, midway-alike, midway-kept, both-written}
+use Rattle.reopening.proofs.Reopened.{openedFrom}
 
 -- ---- a mix of two lists of states
 
