@@ -2,7 +2,7 @@
 --
 -- Raw bytes are written, an unknown type byte included. A source image of another length is BadImage, before the record is looked at.
 -- Assumes nothing.
-use mathlib.Core.Bool.{Bool, _||_, not}
+use mathlib.Core.Bool.{_||_, not}
 use mathlib.Core.List.{List, [], _∷_}
 use Prim.Native.Nat.{ℕ, _+_, _*_}
 use lib.Dec.{eqb, ltb}

@@ -3,7 +3,7 @@
 -- In order: lists of bytes that are all 0xFF; bytes stored at an address; the units of a write; units done one after the other.
 -- A power cut after n units of a plan, and a call told to stop after n, leave `run (take n plan) image`.
 -- Assumes that a unit is done or not, which is the flash's part.
-use mathlib.Core.Bool.{Bool, true, false, _&&_, cond}
+use mathlib.Core.Bool.{Bool, true, _&&_, cond}
 use mathlib.Core.List.{List, [], _∷_}
 use Prim.Native.Nat.{ℕ, zero, suc, _+_}
 use lib.Bits.{bitAnd}

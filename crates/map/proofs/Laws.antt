@@ -1,8 +1,8 @@
 -- Laws of counting: entries counted one behind the other, and the states of a map byte by byte.
 -- Assumes nothing.
-use mathlib.Core.Path.{_≡_, sym, ap, ap₂, _∙_}
+use mathlib.Core.Path.{_≡_, sym, ap, _∙_}
 use mathlib.Core.Bool.{cond}
-use mathlib.Core.List.{List, [], _∷_, _++_, append-assoc}
+use mathlib.Core.List.{List, [], _∷_, _++_}
 use Prim.Native.Nat.{ℕ, _+_, _*_, _/_, _%_, _<_, _≤_}
 use native.Mathlib.Nat.{zero-add, add-zero}
 use native.Mathlib.Numerals.{add-one}
@@ -13,7 +13,7 @@ use lib.Seq.{take-suc, take-all, take-append-add, length-take-le}
 use Rattle.sector.specs.declared.EntryMapState.{EntryMapState}
 use Rattle.sector.specs.declared.EntryMapState.the-variants.{Empty, Written, Erased, Illegal}
 use Rattle.sector.specs.declared.Statistics.{Statistics}
-use Rattle.sector.specs.Map.{bitsOf, stateOfBits, unpack, statesOf, sameState, countIn, statistics}
+use Rattle.sector.specs.Map.{bitsOf, stateOfBits, unpack, statesOf, countIn, statistics}
 use Rattle.sector.proofs.Laws.{length-unpack, countIn-sum}
 use Rattle.sector.proofs.Marks.{bits-state, unpack-append, countIn-append}
 use Rattle.map.specs.Counting.{inAll, counted}

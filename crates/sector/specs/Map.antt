@@ -3,12 +3,12 @@
 -- In order: the states and their bits; the state of an entry; all 126 states; what `get_entry_state` and `get_entry_statistics` answer; setting a range.
 -- Assumes nothing.
 use mathlib.Core.Path.{_≡_, refl}
-use mathlib.Core.Bool.{Bool, true, false, cond}
+use mathlib.Core.Bool.{Bool, cond}
 use mathlib.Core.List.{List, [], _∷_}
 use Prim.Native.Nat.{ℕ, zero, suc, _+_, _-_, _*_, _/_, _%_, _^_}
 use lib.Bits.{bitAnd}
 use lib.Dec.{eqb, ltb}
-use lib.ListN.{take, drop, getD, set}
+use lib.ListN.{take, getD, set}
 use Rattle.flash.specs.Flash.{Unit4, units}
 use Rattle.sector.specs.declared.Answer.the-variants.{Done, CorruptedData}
 use Rattle.sector.specs.declared.EntryMapState.{EntryMapState}

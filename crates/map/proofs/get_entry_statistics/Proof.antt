@@ -1,10 +1,10 @@
 -- `get_entry_statistics` meets its contract: after i turns the first i bytes are counted, and the last has two entries more.
 use mathlib.Core.Path.{_≡_, refl, ap, _∙_}
 use mathlib.Core.List.{[], _∷_}
-use Prim.Native.Nat.{ℕ, _-_, _%_, _/_, _≤_}
+use Prim.Native.Nat.{_-_, _%_, _/_, _≤_}
 use native.Mathlib.Omega.{arith}
 use borrow.Author.Needs.{needs}
-use lib.ListN.{getD, length}
+use lib.ListN.{getD}
 use Rattle.sector.specs.declared.Statistics.{Statistics}
 use Rattle.sector.specs.Map.{stateOfBits, unpack, countIn}
 use Rattle.map.specs.Counting.{inAll, counted}

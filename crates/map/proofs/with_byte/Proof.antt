@@ -1,7 +1,7 @@
 -- `with_byte` meets its contract: its four entries are counted one behind the other.
 use mathlib.Core.Path.{_≡_, ap, _∙_}
-use mathlib.Core.List.{List, [], _∷_}
-use Prim.Native.Nat.{ℕ, _+_, _%_, _/_}
+use mathlib.Core.List.{[], _∷_}
+use Prim.Native.Nat.{_%_, _/_}
 use native.Mathlib.Omega.{arith}
 use borrow.Author.Needs.{needs}
 use Rattle.sector.specs.declared.Statistics.{Statistics}
