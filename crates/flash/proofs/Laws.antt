@@ -491,6 +491,13 @@ take-run image within-nil = refl
 take-run {from} image (within-cons address bytes h g w) =
     take-run (program image address bytes) w ∙ take-program from image address bytes h
 
+-- what lies behind all of them
+pub drop-run : {from to : ℕ} {plan : List Unit4} (image : List ℕ) → Within from to plan → drop to (run plan image) ≡ drop to image
+unfolding run
+drop-run image within-nil = refl
+drop-run {to = to} image (within-cons address bytes h g w) =
+    drop-run (program image address bytes) w ∙ drop-program to image address bytes g
+
 -- a front that they do not reach
 pub run-past : {to : ℕ} {plan : List Unit4} (front rest : List ℕ) → Within (length front) to plan
     → run plan (front ++ rest) ≡ front ++ drop (length front) (run plan (front ++ rest))

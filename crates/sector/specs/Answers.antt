@@ -1,6 +1,6 @@
 -- What a call answers (01, 'Numbers that come back'): its number, and the byte that it carries.
 --
--- In order: numbers; the byte carried; that the two tell every answer apart; checks in 01's order.
+-- In order: the answers, by their numbers and the byte carried, which tell every answer apart; checks in 01's order.
 -- Assumes nothing.
 use mathlib.Core.Path.{_≡_, refl}
 use mathlib.Core.Bool.{Bool, true, false, cond}
@@ -9,6 +9,8 @@ use Prim.Native.Nat.{ℕ}
 use lib.ListN.{getD}
 use Rattle.sector.specs.declared.Answer.{Answer}
 use Rattle.sector.specs.declared.Answer.the-variants.{Done, BadImage, BadRecord, WrongState, BadRequest, ValueTooLong, PageFull, KeyNotFound, ItemTypeMismatch, CorruptedData, NotWritten, Stopped}
+
+-- ---- the answers
 
 abbrev pub numberOf : Answer → ℕ
 numberOf Done = 0

@@ -8,7 +8,7 @@ use lib.Dec.{eqb}
 use lib.ListN.{take, drop, length}
 use Rattle.crc.specs.Crc.{crc32}
 use Rattle.flash.specs.Flash.{allOnes}
-use Rattle.sector.specs.Layout.{littleEndian, storedCrc, keyOf, dataOf, namespaceOf, chunkOf}
+use Rattle.sector.specs.Layout.{littleEndian, storedCrc, keyOf, namespaceOf, chunkOf}
 use Rattle.sector.specs.Types.{sanitized}
 
 -- the value that every CRC of a page starts from

@@ -107,9 +107,6 @@ storedCrc entry = number (field 4 4 entry)
 abbrev pub keyOf : List ℕ → List ℕ
 keyOf entry = field 8 16 entry
 
-abbrev pub dataOf : List ℕ → List ℕ
-dataOf entry = field 24 8 entry
-
 -- of Sized, Blob and BlobData: the payload's size
 abbrev pub sizeOf : List ℕ → ℕ
 sizeOf entry = number (field 24 2 entry)

@@ -30,7 +30,7 @@ byteOf BlobData = 0x42
 byteOf BlobIndex = 0x48
 byteOf Any = 0xFF
 
--- the types that have a byte of their own, in 01's order
+-- all but Any, in 01's order
 abbrev pub knownTypes : List ItemType
 knownTypes = U8 ∷ I8 ∷ U16 ∷ I16 ∷ U32 ∷ I32 ∷ U64 ∷ I64 ∷ Sized ∷ Blob ∷ BlobData ∷ BlobIndex ∷ []
 
