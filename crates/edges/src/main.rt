@@ -1,7 +1,13 @@
-// What the calls give at both sides of each edge: the writing calls, then calls that are cut short, and the page opened.
+// What the calls give at both sides of each edge, in document 01's order; then calls that are cut short, and the page opened.
+mod copies;
 mod cuts;
+mod erases;
+mod purges;
 
 fn main() {
     trials::print_all();
+    copies::print_all();
+    erases::print_all();
+    purges::print_all();
     cuts::print_all();
 }

@@ -60,7 +60,7 @@ fn variable(used: u8, namespace: u8, kind: u8, length: usize, byte: u8, at: usiz
 }
 
 // The entry that a call writes on an empty page, with a byte on either side.
-pub(crate) fn print_entry(name: &[u8], call: Call) {
+pub fn print_entry(name: &[u8], call: Call) {
     let left = calls::after(records::empty(0xFE), call, 9);
     let image = left.image;
     show::text(name);

@@ -27,7 +27,7 @@ pub(crate) fn print_on(sector: Sector, call: Call, at: usize) {
     lines::print(calls::after(sector, call, n), at);
 }
 
-pub(crate) fn print(call: Call, state: u8, used: u8, erased: u8, at: usize) {
+pub fn print(call: Call, state: u8, used: u8, erased: u8, at: usize) {
     lines::print_page(state, used, erased);
     print_on(records::filled(state, used, erased), call, at);
 }

@@ -1,8 +1,8 @@
 // Erase: data of a page, and entries that are none.
-use crate::calls;
-use crate::calls::Call;
-use crate::lines;
-use crate::records;
+use trials::calls;
+use trials::calls::Call;
+use trials::lines;
+use trials::records;
 
 fn print_name(state: u8, length: usize, before: usize, index: usize, span: usize) {
     show::number(b"erase, data of length ", length as u64);

@@ -1,7 +1,7 @@
 // Copy in: items of a source image, whose entry the calls of `sector` make.
-use crate::appends;
-use crate::calls::Call;
-use crate::units;
+use trials::appends;
+use trials::calls::Call;
+use trials::units;
 
 fn print_source(rest: u8, place: usize, made: u8, kind: u8, span: u8) {
     show::byte(b"copy, source of ", rest);

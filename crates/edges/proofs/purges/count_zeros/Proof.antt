@@ -3,8 +3,8 @@ use Prim.Native.Nat.{_≤_, _-_}
 use mathlib.Core.Logic.{⊎-elim}
 use native.Mathlib.Omega.{arith}
 use borrow.Author.Needs.{needs}
-use Rattle.trials.proofs.purges.count_zeros.Statement.{statement}
-use Rattle.trials.proofs.purges.count_zeros.Tie as tie
+use Rattle.edges.proofs.purges.count_zeros.Statement.{statement}
+use Rattle.edges.proofs.purges.count_zeros.Tie as tie
 
 abbrev Inv-loop : tie.InvT-loop
 Inv-loop image count₀ k₀ count k = count ≤ k

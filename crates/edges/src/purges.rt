@@ -1,8 +1,8 @@
 // Purge: the bytes that become zero in an erased image; and by namespace, which items still load.
-use crate::calls;
-use crate::calls::Call;
-use crate::records;
-use crate::records::Sector;
+use trials::calls;
+use trials::calls::Call;
+use trials::records;
+use trials::records::Sector;
 
 fn count_zeros(image: &[u8; 4096]) -> u64 {
     let mut count: u64 = 0;
