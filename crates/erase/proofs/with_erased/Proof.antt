@@ -50,7 +50,9 @@ add-t15 c =
 
 returns : tie.Need-returns
 unfolding withErased
-returns c = cc
+returns c =
+    let places = c .before .before .before in
+    rw (places .without .ensures .0, places .without .ensures .1, places .before .before .before .mark-range .ensures)
 
 pub with-erased-spec : {M : Type 1} → statement M
 with-erased-spec =

@@ -8,7 +8,7 @@ number-of-requires : tie.Need-number-of-requires
 number-of-requires c κs = search needs
 
 returns : tie.Need-returns
-returns c = cc
+returns c = rw (c .number-of .ensures)
 
 pub is-done-spec : {M : Type 1} → statement M
 is-done-spec = tie.close (tie.spec number-of-requires returns)

@@ -40,7 +40,18 @@ add-t17 c = search needs
 
 returns : tie.Need-returns
 unfolding withItem
-returns c = cc
+returns c =
+    let lens = c .before in
+    let lists = lens .before in
+    let marks = lists .before .before in
+    let states = marks .before .before in
+    rw (
+      lens .len-after .ensures,
+      lists .list-after .ensures,
+      marks .mark-range .ensures,
+      states .state-after .ensures,
+      states .before .get-next-free-entry .ensures,
+    )
 
 pub with-item-spec : {M : Type 1} → statement M
 with-item-spec =
