@@ -11,7 +11,8 @@ use Rattle.sector.specs.declared.Statistics.{Statistics}
 use Rattle.sector.specs.Answers.{numberOf, carriedByte}
 use Rattle.page.specs.declared.Outcome.{Outcome}
 use Rattle.encoding.specs.Encoding.{wrongSize, answerBytes}
-use Rattle.boundary.specs.Boundary.{badCall, given, recordLeft, left}
+use Rattle.handing.specs.Handing.{recordLeft}
+use Rattle.boundary.specs.Boundary.{badCall, given, left}
 
 -- ---- sizes
 

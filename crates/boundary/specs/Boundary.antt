@@ -7,7 +7,6 @@
 use mathlib.Core.Bool.{Bool, _||_, cond}
 use mathlib.Core.List.{List}
 use Prim.Native.Nat.{ℕ}
-use lib.Dec.{eqb}
 use lib.ListN.{length}
 use Rattle.sector.specs.declared.Answer.{Answer}
 use Rattle.sector.specs.declared.Answer.the-variants.{Done}
@@ -28,6 +27,7 @@ use Rattle.header.specs.Calls.{initialise, initialiseImage, markFull, markFullI
 use Rattle.load.specs.Load.{rawEntry, loadItem}
 use Rattle.payload.specs.Payload.{dataAnswer, dataOutput}
 use Rattle.opening.specs.Opening.{opening, openingImage}
+use Rattle.handing.specs.Handing.{recordLeft}
 use Rattle.encoding.specs.Encoding.{recordSize, recordBytes, recordOf, answerSize, answerBytes, zeroItem, noCounts, wrongSize}
 
 -- ---- sizes
@@ -115,10 +115,6 @@ pub record Left : Type 0 where
   pub number : ℕ
   pub image : List ℕ
   pub buffer : List ℕ
-
--- the new record where the call is done, else the bytes that came in
-unfoldable pub recordLeft : List ℕ → Outcome → List ℕ
-recordLeft buffer outcome = cond (eqb (numberOf (outcome .answer)) 0) (recordBytes (outcome .page)) buffer
 
 -- an outcome and the image after it
 abbrev pub left : Bool → List ℕ → List ℕ → Outcome → List ℕ → Left

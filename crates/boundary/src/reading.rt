@@ -1,9 +1,6 @@
 // C functions with an answer of 57 bytes: width, load, raw read, load data, and the calls over a map.
 ghost use mathlib.Core.Path.{_≡_};
-ghost use lib.ListN.{length};
-ghost use Rattle.sector.specs.Answers.{numberOf, carriedByte};
 ghost use Rattle.sector.specs.Map.{bitsOf};
-ghost use Rattle.encoding.specs.Encoding.{answerSize, answerBytes, zeroItem, noCounts};
 ghost use Rattle.boundary.specs.Boundary.{widthGiven, loadGiven, rawGiven, dataGiven, dataLeft, stateGiven, statisticsGiven, boundGiven};
 use crate::ANSWER_SIZE;
 use crate::BAD_CALL;
@@ -11,60 +8,6 @@ use crate::ENTRIES_SIZE;
 use crate::MAP_SIZE;
 use sector::Answer;
 use sector::EntryMapState;
-use sector::Statistics;
-use sector::answers;
-
-// The type byte that an answer carries, 0 but for ItemTypeMismatch.
-fn carried_byte(answer: Answer) -> u8
-    ensures { λ r. ⌜ r ≡ carriedByte answer ⌝ }
-{
-    match answer {
-        Answer::Done => 0,
-        Answer::BadImage => 0,
-        Answer::BadRecord => 0,
-        Answer::WrongState => 0,
-        Answer::BadRequest => 0,
-        Answer::ValueTooLong => 0,
-        Answer::PageFull => 0,
-        Answer::KeyNotFound => 0,
-        Answer::ItemTypeMismatch(byte) => byte,
-        Answer::CorruptedData => 0,
-        Answer::NotWritten => 0,
-        Answer::Stopped => 0,
-    }
-}
-
-fn no_counts() -> Statistics
-    ensures { λ r. ⌜ r ≡ noCounts ⌝ }
-{
-    Statistics {
-        empty: 0,
-        written: 0,
-        erased: 0,
-        illegal: 0,
-    }
-}
-
-// Lays out an answer with a number, and hands back its number in document 01.
-fn give_number(buffer: &mut [u8], answer: Answer, value: u64) -> u32
-    requires { ⌜ length (now buffer) ≡ answerSize ⌝ }
-    ensures number { λ r. ⌜ r ≡ numberOf answer ⌝ }
-    ensures buffer { λ r. ⌜ now (buffer .exit) ≡ answerBytes (carriedByte answer) value zeroItem noCounts ⌝ }
-{
-    let none = [0u8; 32];
-    encoding::put_answer(buffer, carried_byte(answer), value, none, no_counts());
-    answers::number_of(answer) as u32
-}
-
-// Lays out an answer with an item, and hands back its number in document 01.
-fn give_item(buffer: &mut [u8], answer: Answer, item: [u8; 32]) -> u32
-    requires { ⌜ length (now buffer) ≡ answerSize ⌝ }
-    ensures number { λ r. ⌜ r ≡ numberOf answer ⌝ }
-    ensures buffer { λ r. ⌜ now (buffer .exit) ≡ answerBytes (carriedByte answer) 0 item noCounts ⌝ }
-{
-    encoding::put_answer(buffer, carried_byte(answer), 0, item, no_counts());
-    answers::number_of(answer) as u32
-}
 
 // A primitive's width (`get_primitive_bytes_width`).
 #[no_mangle]
@@ -77,7 +20,7 @@ pub extern "C" fn nvs_width(byte: u8, buffer: &mut [u8]) -> u32
     }
     let found = types::get_primitive_bytes_width(byte);
     let answer = found.answer;
-    give_number(buffer, answer, found.width as u64)
+    handing::give_number(buffer, answer, found.width as u64)
 }
 
 // An item by its index (`load_item`).
@@ -92,7 +35,7 @@ pub extern "C" fn nvs_load(image: &[u8], index: u64, buffer: &mut [u8]) -> u32
     let loaded = load::load_item(image, index as usize);
     let answer = loaded.answer;
     let item = loaded.item;
-    give_item(buffer, answer, item)
+    handing::give_item(buffer, answer, item)
 }
 
 // An entry's bytes as they lie (`read_raw_entry`).
@@ -107,7 +50,7 @@ pub extern "C" fn nvs_raw_read(image: &[u8], index: u64, buffer: &mut [u8]) -> u
     let loaded = load::read_raw_entry(image, index as usize);
     let answer = loaded.answer;
     let item = loaded.item;
-    give_item(buffer, answer, item)
+    handing::give_item(buffer, answer, item)
 }
 
 // The data behind an item's header (`load_referenced_data_into`), and its size.
@@ -127,7 +70,7 @@ pub extern "C" fn nvs_load_data(
     }
     let loaded = payload::load_referenced_data_into(image, index as usize, output);
     let answer = loaded.answer;
-    give_number(buffer, answer, loaded.size as u64)
+    handing::give_number(buffer, answer, loaded.size as u64)
 }
 
 fn bits_of(state: EntryMapState) -> u64
@@ -156,7 +99,7 @@ pub extern "C" fn nvs_entry_state(bytes: &[u8], index: u64, buffer: &mut [u8]) -
     let found = map::get_entry_state(encoding::array_32(bytes), index as usize);
     let answer = found.answer;
     let state = found.state;
-    give_number(buffer, answer, bits_of(state))
+    handing::give_number(buffer, answer, bits_of(state))
 }
 
 // How many entries are in each state (`get_entry_statistics`).
@@ -193,5 +136,5 @@ pub extern "C" fn nvs_hash_bound(bytes: &[u8], entries: &[u8], buffer: &mut [u8]
         return BAD_CALL;
     }
     let count = bound::hashed_item_bound(encoding::array_32(bytes), encoding::entries_of(entries));
-    give_number(buffer, Answer::Done, count as u64)
+    handing::give_number(buffer, Answer::Done, count as u64)
 }

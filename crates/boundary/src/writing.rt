@@ -2,35 +2,16 @@
 //
 // The record goes in and comes back in the same buffer, and stays as it was on any refusal and on Stopped.
 ghost use mathlib.Core.Path.{_≡_};
-ghost use lib.ListN.{length};
 ghost use Rattle.sector.specs.Answers.{numberOf};
 ghost use Rattle.purge.specs.Purge.{purge, purgeImage};
-ghost use Rattle.encoding.specs.Encoding.{recordSize};
-ghost use Rattle.boundary.specs.Boundary.{recordLeft, openLeft, initialiseLeft, markFullLeft, singleLeft, namespaceLeft, variableLeft, copyLeft, eraseLeft, purgeNamespaceLeft, singleOf, variableOf};
+ghost use Rattle.boundary.specs.Boundary.{openLeft, initialiseLeft, markFullLeft, singleLeft, namespaceLeft, variableLeft, copyLeft, eraseLeft, purgeNamespaceLeft, singleOf, variableOf};
 use crate::BAD_CALL;
 use crate::KEY_SIZE;
 use crate::RECORD_SIZE;
 use crate::SINGLE_SIZE;
 use append::Single;
 use append::Variable;
-use page::Outcome;
 use sector::answers;
-
-// Lays out the new record where the call is done, and hands back its number in document 01.
-fn hand_back(buffer: &mut [u8], outcome: Outcome) -> u32
-    requires { ⌜ length (now buffer) ≡ recordSize ⌝ }
-    ensures number { λ r. ⌜ r ≡ numberOf (outcome .answer) ⌝ }
-    ensures buffer { λ r. ⌜ now (buffer .exit) ≡ recordLeft (now (buffer .entry)) outcome ⌝ }
-{
-    let answer = outcome.answer;
-    let number = answers::number_of(answer);
-    if number != 0 {
-        return number as u32;
-    }
-    let page = outcome.page;
-    encoding::put_record(page, buffer);
-    0
-}
 
 // Opens a page (`open_page`); the record is only written, and on a refusal it is the Uninitialized one.
 #[no_mangle]
@@ -66,7 +47,7 @@ pub extern "C" fn nvs_initialise(
     }
     let page = encoding::record_of(&buffer[..]);
     let outcome = header::initialize(image, page, sequence, stop as usize);
-    hand_back(buffer, outcome)
+    handing::hand_back(buffer, outcome)
 }
 
 // Writes the state word Full (`mark_as_full`).
@@ -81,7 +62,7 @@ pub extern "C" fn nvs_mark_full(image: &mut [u8], buffer: &mut [u8]) -> u32
     }
     let page = encoding::record_of(&buffer[..]);
     let outcome = header::mark_as_full(image, page);
-    hand_back(buffer, outcome)
+    handing::hand_back(buffer, outcome)
 }
 
 // Appends a single entry (`write_item`), stopped after `stop` units where it has more.
@@ -120,7 +101,7 @@ pub extern "C" fn nvs_append_single(
     };
     let page = encoding::record_of(&buffer[..]);
     let outcome = append::write_item(image, page, item, stop as usize);
-    hand_back(buffer, outcome)
+    handing::hand_back(buffer, outcome)
 }
 
 // Appends a namespace entry (`write_namespace`), stopped after `stop` units where it has more.
@@ -145,7 +126,7 @@ pub extern "C" fn nvs_append_namespace(
     let name = encoding::array_16(key);
     let page = encoding::record_of(&buffer[..]);
     let outcome = append::write_namespace(image, page, name, value, stop as usize);
-    hand_back(buffer, outcome)
+    handing::hand_back(buffer, outcome)
 }
 
 // Appends data (`write_variable_sized_item`), stopped after `stop` units where it has more.
@@ -184,7 +165,7 @@ pub extern "C" fn nvs_append_variable(
         payload,
         stop as usize,
     );
-    hand_back(buffer, outcome)
+    handing::hand_back(buffer, outcome)
 }
 
 // Copies an item from another sector (`copy_item_from`), stopped after `stop` units where it has more.
@@ -205,7 +186,7 @@ pub extern "C" fn nvs_copy_in(
     }
     let page = encoding::record_of(&buffer[..]);
     let outcome = copy::copy_item_from(image, page, source, index as usize, stop as usize);
-    hand_back(buffer, outcome)
+    handing::hand_back(buffer, outcome)
 }
 
 // Marks the entries of an item Erased (`erase_item`).
@@ -220,7 +201,7 @@ pub extern "C" fn nvs_erase(image: &mut [u8], buffer: &mut [u8], index: u64, spa
     }
     let page = encoding::record_of(&buffer[..]);
     let outcome = erase::erase_item(image, page, index as usize, span as usize);
-    hand_back(buffer, outcome)
+    handing::hand_back(buffer, outcome)
 }
 
 // Zeroes entries from an index on (`purge_entries`).
@@ -245,5 +226,5 @@ pub extern "C" fn nvs_purge_namespace(image: &mut [u8], buffer: &mut [u8], names
     }
     let page = encoding::record_of(&buffer[..]);
     let outcome = purge_namespace::purge_erased_for_namespace(image, page, namespace);
-    hand_back(buffer, outcome)
+    handing::hand_back(buffer, outcome)
 }

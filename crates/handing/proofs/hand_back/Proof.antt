@@ -3,9 +3,9 @@ use mathlib.Core.Path.{_≡_, sym, _∙_}
 use borrow.Author.Needs.{needs}
 use borrow.Author.Tests.{eq-eqb, ne-eqb}
 use Rattle.sector.specs.Answers.{numberOf}
-use Rattle.boundary.specs.Boundary.{recordLeft}
-use Rattle.boundary.proofs.writing.hand_back.Statement.{statement}
-use Rattle.boundary.proofs.writing.hand_back.Tie as tie
+use Rattle.handing.specs.Handing.{recordLeft}
+use Rattle.handing.proofs.hand_back.Statement.{statement}
+use Rattle.handing.proofs.hand_back.Tie as tie
 
 number-of-requires : tie.Need-number-of-requires
 number-of-requires c κs = search needs

@@ -1,11 +1,11 @@
--- `give_item` meets its contract: no number and no counts.
+-- `give_number` meets its contract: no item and no counts.
 use mathlib.Core.Path.{ap₂, _∙_}
 use Prim.Native.Nat.{ℕ}
 use borrow.Author.Needs.{needs}
 use Rattle.sector.specs.declared.Statistics.{Statistics}
-use Rattle.encoding.specs.Encoding.{answerBytes}
-use Rattle.boundary.proofs.reading.give_item.Statement.{statement}
-use Rattle.boundary.proofs.reading.give_item.Tie as tie
+use Rattle.encoding.specs.Encoding.{answerBytes, zeroItem}
+use Rattle.handing.proofs.give_number.Statement.{statement}
+use Rattle.handing.proofs.give_number.Tie as tie
 
 carried-byte-requires : tie.Need-carried-byte-requires
 carried-byte-requires c κs = search needs
@@ -33,11 +33,11 @@ returns c =
     let z = byte .before .before .before .args in (
       c .number-of .ensures,
       put .put-answer .ensures
-          ∙ ap₂ (λ (b : ℕ) (s : Statistics). answerBytes b 0 (z .item) s) (byte .carried-byte .ensures) (counts .no-counts .ensures),
+          ∙ ap₂ (λ (b : ℕ) (s : Statistics). answerBytes b (z .value) zeroItem s) (byte .carried-byte .ensures) (counts .no-counts .ensures),
     )
 
-pub give-item-spec : {M : Type 1} → statement M
-give-item-spec =
+pub give-number-spec : {M : Type 1} → statement M
+give-number-spec =
     tie.close
     (tie.spec
     carried-byte-requires
