@@ -8,10 +8,10 @@ array-read-if1 : tie.Need-array-read-if1
 array-read-if1 c = search needs
 
 returns : tie.Need-returns
-returns c = rw (eq-eqb _ _ (c .if1 .taken))
+returns c = rw (eq-eqb _ 0 (c .if1 .taken))
 
 returns-2 : tie.Need-returns-2
-returns-2 c = rw (ne-eqb _ _ (c .if1 .left))
+returns-2 c = rw (ne-eqb _ 0 (c .if1 .left))
 
 pub count-of-spec : {M : Type 1} → statement M
 count-of-spec = tie.close (tie.spec array-read-if1 returns returns-2)

@@ -11,7 +11,7 @@ use Rattle.map.proofs.get_entry_state.Tie as tie
 
 returns : tie.Need-returns
 unfolding entryState
-returns c = rw (le-ltb _ _ (c .if1 .taken))
+returns c = rw (le-ltb _ 126 (c .if1 .taken))
 
 state-at-requires : tie.Need-state-at-requires
 state-at-requires c κs = search needs
@@ -19,7 +19,7 @@ state-at-requires c κs = search needs
 returns-2 : tie.Need-returns-2
 unfolding entryState
 returns-2 c =
-    rw (lt-ltb _ _ (c .before .if1 .left))
+    rw (lt-ltb _ 126 (c .before .if1 .left))
     (ap {B = StateAnswer} (λ (s : EntryMapState). record { answer = Done; state = s }) (c .state-at .ensures))
 
 pub get-entry-state-spec : {M : Type 1} → statement M

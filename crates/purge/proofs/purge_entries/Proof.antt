@@ -13,7 +13,7 @@ returns c = rw (ne-eqb _ _ (c .if1 .taken)) (refl, refl)
 
 returns-2 : tie.Need-returns-2
 unfolding purge purgeImage purgePlan run
-returns-2 c = rw (eq-eqb _ _ (c .before .if1 .left), le-ltb _ _ (c .if2 .taken)) (refl, refl)
+returns-2 c = rw (eq-eqb _ _ (c .before .if1 .left), le-ltb _ 126 (c .if2 .taken)) (refl, refl)
 
 held-span-requires : tie.Need-held-span-requires
 held-span-requires c κs = search needs
@@ -29,7 +29,7 @@ unfolding purge purgeImage purgePlan
 returns-3 c =
     let zeroed = c .before .before in
     let on-page = zeroed .before .before .before in
-    rw (eq-eqb _ _ (on-page .before .if1 .left), lt-ltb _ _ (on-page .if2 .left), ← zeroed .before .held-span .ensures) (refl, zeroed .zero-entries .ensures)
+    rw (eq-eqb _ _ (on-page .before .if1 .left), lt-ltb _ 126 (on-page .if2 .left), ← zeroed .before .held-span .ensures) (refl, zeroed .zero-entries .ensures)
 
 pub purge-entries-spec : {M : Type 1} → statement M
 purge-entries-spec =

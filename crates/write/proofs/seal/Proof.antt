@@ -22,7 +22,7 @@ same-length : tie.Need-same-length
 same-length c = search needs
 
 returns : tie.Need-returns
-returns c = rw (ne-eqb _ _ (c .if1 .taken), append-nil) (c .before .before .before .write-marks .ensures)
+returns c = rw (ne-eqb _ 126 (c .if1 .taken), append-nil) (c .before .before .before .write-marks .ensures)
 
 remaining-requires : tie.Need-remaining-requires
 remaining-requires c κs = search needs
@@ -52,7 +52,7 @@ returns-2 c =
     let else = full .before .before .before in
     let marks = else .before .before .before in
     let z = marks .before .before .before .args in
-    rw (eq-eqb _ _ (else .if1 .left))
+    rw (eq-eqb _ 126 (else .if1 .left))
     (run-both (z .budget) (mapUnits (z .start) (z .span) (z .map)) (units 0 (stateBytes Full)) (z .image .now)
     (marks .write-marks .ensures .0)
     (full .write-full .ensures .0)
