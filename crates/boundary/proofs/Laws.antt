@@ -10,8 +10,8 @@ use Rattle.sector.specs.declared.Answer.{Answer}
 use Rattle.sector.specs.declared.Statistics.{Statistics}
 use Rattle.sector.specs.Answers.{numberOf, carriedByte}
 use Rattle.page.specs.declared.Outcome.{Outcome}
-use Rattle.encoding.specs.Encoding.{wrongSize, answerBytes}
-use Rattle.handing.specs.Handing.{recordLeft}
+use Rattle.boundary_encoding.specs.Encoding.{wrongSize, answerBytes}
+use Rattle.boundary_results.specs.Handing.{recordLeft}
 use Rattle.boundary.specs.Boundary.{badCall, given, left}
 
 -- ---- sizes

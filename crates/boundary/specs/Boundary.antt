@@ -16,19 +16,19 @@ use Rattle.sector.specs.Layout.{entriesPerPage, chunks}
 use Rattle.sector.specs.Map.{bitsOf, entryState, statistics}
 use Rattle.sector.specs.Types.{primitiveWidth}
 use Rattle.page.specs.declared.Outcome.{Outcome}
-use Rattle.append.specs.declared.Single.{Single}
-use Rattle.append.specs.declared.Variable.{Variable}
-use Rattle.append.specs.Append.{namespaceItem, appendSingle, appendSingleImage, appendVariable, appendVariableImage}
-use Rattle.bound.specs.Bound.{hashBound}
-use Rattle.copy.specs.Copy.{copyIn, copyInImage}
-use Rattle.erase.specs.Erase.{erase, eraseImage}
-use Rattle.purge_namespace.specs.PurgeNamespace.{purgeNamespace, purgeNamespaceImage}
-use Rattle.header.specs.Calls.{initialise, initialiseImage, markFull, markFullImage}
-use Rattle.load.specs.Load.{rawEntry, loadItem}
-use Rattle.payload.specs.Payload.{dataAnswer, dataOutput}
+use Rattle.call_append.specs.declared.Single.{Single}
+use Rattle.call_append.specs.declared.Variable.{Variable}
+use Rattle.call_append.specs.Append.{namespaceItem, appendSingle, appendSingleImage, appendVariable, appendVariableImage}
+use Rattle.call_hash_bound.specs.Bound.{hashBound}
+use Rattle.call_copy.specs.Copy.{copyIn, copyInImage}
+use Rattle.call_erase.specs.Erase.{erase, eraseImage}
+use Rattle.call_purge_namespace.specs.PurgeNamespace.{purgeNamespace, purgeNamespaceImage}
+use Rattle.call_page_state.specs.Calls.{initialise, initialiseImage, markFull, markFullImage}
+use Rattle.call_load.specs.Load.{rawEntry, loadItem}
+use Rattle.call_load_data.specs.Payload.{dataAnswer, dataOutput}
 use Rattle.opening.specs.Opening.{opening, openingImage}
-use Rattle.handing.specs.Handing.{recordLeft}
-use Rattle.encoding.specs.Encoding.{recordSize, recordBytes, recordOf, answerSize, answerBytes, zeroItem, noCounts, wrongSize}
+use Rattle.boundary_results.specs.Handing.{recordLeft}
+use Rattle.boundary_encoding.specs.Encoding.{recordSize, recordBytes, recordOf, answerSize, answerBytes, zeroItem, noCounts, wrongSize}
 
 -- ---- sizes
 

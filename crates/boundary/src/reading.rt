@@ -18,9 +18,9 @@ pub extern "C" fn nvs_width(byte: u8, buffer: &mut [u8]) -> u32
     if buffer.len() != ANSWER_SIZE {
         return BAD_CALL;
     }
-    let found = types::get_primitive_bytes_width(byte);
+    let found = sector_types::get_primitive_bytes_width(byte);
     let answer = found.answer;
-    handing::give_number(buffer, answer, found.width as u64)
+    boundary_results::give_number(buffer, answer, found.width as u64)
 }
 
 // An item by its index (`load_item`).
@@ -32,10 +32,10 @@ pub extern "C" fn nvs_load(image: &[u8], index: u64, buffer: &mut [u8]) -> u32
     if buffer.len() != ANSWER_SIZE {
         return BAD_CALL;
     }
-    let loaded = load::load_item(image, index as usize);
+    let loaded = call_load::load_item(image, index as usize);
     let answer = loaded.answer;
     let item = loaded.item;
-    handing::give_item(buffer, answer, item)
+    boundary_results::give_item(buffer, answer, item)
 }
 
 // An entry's bytes as they lie (`read_raw_entry`).
@@ -47,10 +47,10 @@ pub extern "C" fn nvs_raw_read(image: &[u8], index: u64, buffer: &mut [u8]) -> u
     if buffer.len() != ANSWER_SIZE {
         return BAD_CALL;
     }
-    let loaded = load::read_raw_entry(image, index as usize);
+    let loaded = call_load::read_raw_entry(image, index as usize);
     let answer = loaded.answer;
     let item = loaded.item;
-    handing::give_item(buffer, answer, item)
+    boundary_results::give_item(buffer, answer, item)
 }
 
 // The data behind an item's header (`load_referenced_data_into`), and its size.
@@ -68,9 +68,9 @@ pub extern "C" fn nvs_load_data(
     if buffer.len() != ANSWER_SIZE {
         return BAD_CALL;
     }
-    let loaded = payload::load_referenced_data_into(image, index as usize, output);
+    let loaded = call_load_data::load_referenced_data_into(image, index as usize, output);
     let answer = loaded.answer;
-    handing::give_number(buffer, answer, loaded.size as u64)
+    boundary_results::give_number(buffer, answer, loaded.size as u64)
 }
 
 fn bits_of(state: EntryMapState) -> u64
@@ -96,10 +96,10 @@ pub extern "C" fn nvs_entry_state(bytes: &[u8], index: u64, buffer: &mut [u8]) -
     if bytes.len() != MAP_SIZE {
         return BAD_CALL;
     }
-    let found = map::get_entry_state(encoding::array_32(bytes), index as usize);
+    let found = sector_map::get_entry_state(boundary_encoding::array_32(bytes), index as usize);
     let answer = found.answer;
     let state = found.state;
-    handing::give_number(buffer, answer, bits_of(state))
+    boundary_results::give_number(buffer, answer, bits_of(state))
 }
 
 // How many entries are in each state (`get_entry_statistics`).
@@ -114,9 +114,9 @@ pub extern "C" fn nvs_statistics(bytes: &[u8], buffer: &mut [u8]) -> u32
     if bytes.len() != MAP_SIZE {
         return BAD_CALL;
     }
-    let counts = map::get_entry_statistics(encoding::array_32(bytes));
+    let counts = sector_map::get_entry_statistics(boundary_encoding::array_32(bytes));
     let none = [0u8; 32];
-    encoding::put_answer(buffer, 0, 0, none, counts);
+    boundary_encoding::put_answer(buffer, 0, 0, none, counts);
     0
 }
 
@@ -135,6 +135,9 @@ pub extern "C" fn nvs_hash_bound(bytes: &[u8], entries: &[u8], buffer: &mut [u8]
     if entries.len() != ENTRIES_SIZE {
         return BAD_CALL;
     }
-    let count = bound::hashed_item_bound(encoding::array_32(bytes), encoding::entries_of(entries));
-    handing::give_number(buffer, Answer::Done, count as u64)
+    let count = call_hash_bound::hashed_item_bound(
+        boundary_encoding::array_32(bytes),
+        boundary_encoding::entries_of(entries),
+    );
+    boundary_results::give_number(buffer, Answer::Done, count as u64)
 }

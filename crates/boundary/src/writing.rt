@@ -3,14 +3,14 @@
 // The record goes in and comes back in the same buffer, and stays as it was on any refusal and on Stopped.
 ghost use mathlib.Core.Path.{_≡_};
 ghost use Rattle.sector.specs.Answers.{numberOf};
-ghost use Rattle.purge.specs.Purge.{purge, purgeImage};
+ghost use Rattle.call_purge.specs.Purge.{purge, purgeImage};
 ghost use Rattle.boundary.specs.Boundary.{openLeft, initialiseLeft, markFullLeft, singleLeft, namespaceLeft, variableLeft, copyLeft, eraseLeft, purgeNamespaceLeft, singleOf, variableOf};
 use crate::BAD_CALL;
 use crate::KEY_SIZE;
 use crate::RECORD_SIZE;
 use crate::SINGLE_SIZE;
-use append::Single;
-use append::Variable;
+use call_append::Single;
+use call_append::Variable;
 use sector::answers;
 
 // Opens a page (`open_page`); the record is only written, and on a refusal it is the Uninitialized one.
@@ -25,7 +25,7 @@ pub extern "C" fn nvs_open(image: &mut [u8], buffer: &mut [u8]) -> u32
     }
     let outcome = opening::open_page(image);
     let page = outcome.page;
-    encoding::put_record(page, buffer);
+    boundary_encoding::put_record(page, buffer);
     let answer = outcome.answer;
     answers::number_of(answer) as u32
 }
@@ -45,9 +45,9 @@ pub extern "C" fn nvs_initialise(
     if buffer.len() != RECORD_SIZE {
         return BAD_CALL;
     }
-    let page = encoding::record_of(&buffer[..]);
-    let outcome = header::initialize(image, page, sequence, stop as usize);
-    handing::hand_back(buffer, outcome)
+    let page = boundary_encoding::record_of(&buffer[..]);
+    let outcome = call_page_state::initialize(image, page, sequence, stop as usize);
+    boundary_results::hand_back(buffer, outcome)
 }
 
 // Writes the state word Full (`mark_as_full`).
@@ -60,9 +60,9 @@ pub extern "C" fn nvs_mark_full(image: &mut [u8], buffer: &mut [u8]) -> u32
     if buffer.len() != RECORD_SIZE {
         return BAD_CALL;
     }
-    let page = encoding::record_of(&buffer[..]);
-    let outcome = header::mark_as_full(image, page);
-    handing::hand_back(buffer, outcome)
+    let page = boundary_encoding::record_of(&buffer[..]);
+    let outcome = call_page_state::mark_as_full(image, page);
+    boundary_results::hand_back(buffer, outcome)
 }
 
 // Appends a single entry (`write_item`), stopped after `stop` units where it has more.
@@ -96,12 +96,12 @@ pub extern "C" fn nvs_append_single(
         kind,
         span: span as usize,
         chunk,
-        key: encoding::array_16(key),
-        bytes: encoding::array_8(bytes),
+        key: boundary_encoding::array_16(key),
+        bytes: boundary_encoding::array_8(bytes),
     };
-    let page = encoding::record_of(&buffer[..]);
-    let outcome = append::write_item(image, page, item, stop as usize);
-    handing::hand_back(buffer, outcome)
+    let page = boundary_encoding::record_of(&buffer[..]);
+    let outcome = call_append::write_item(image, page, item, stop as usize);
+    boundary_results::hand_back(buffer, outcome)
 }
 
 // Appends a namespace entry (`write_namespace`), stopped after `stop` units where it has more.
@@ -123,10 +123,10 @@ pub extern "C" fn nvs_append_namespace(
     if key.len() != KEY_SIZE {
         return BAD_CALL;
     }
-    let name = encoding::array_16(key);
-    let page = encoding::record_of(&buffer[..]);
-    let outcome = append::write_namespace(image, page, name, value, stop as usize);
-    handing::hand_back(buffer, outcome)
+    let name = boundary_encoding::array_16(key);
+    let page = boundary_encoding::record_of(&buffer[..]);
+    let outcome = call_append::write_namespace(image, page, name, value, stop as usize);
+    boundary_results::hand_back(buffer, outcome)
 }
 
 // Appends data (`write_variable_sized_item`), stopped after `stop` units where it has more.
@@ -155,17 +155,17 @@ pub extern "C" fn nvs_append_variable(
         namespace,
         kind,
         chunk,
-        key: encoding::array_16(key),
+        key: boundary_encoding::array_16(key),
     };
-    let page = encoding::record_of(&buffer[..]);
-    let outcome = append_variable::write_variable_sized_item(
+    let page = boundary_encoding::record_of(&buffer[..]);
+    let outcome = call_append_variable::write_variable_sized_item(
         image,
         page,
         item,
         payload,
         stop as usize,
     );
-    handing::hand_back(buffer, outcome)
+    boundary_results::hand_back(buffer, outcome)
 }
 
 // Copies an item from another sector (`copy_item_from`), stopped after `stop` units where it has more.
@@ -184,9 +184,9 @@ pub extern "C" fn nvs_copy_in(
     if buffer.len() != RECORD_SIZE {
         return BAD_CALL;
     }
-    let page = encoding::record_of(&buffer[..]);
-    let outcome = copy::copy_item_from(image, page, source, index as usize, stop as usize);
-    handing::hand_back(buffer, outcome)
+    let page = boundary_encoding::record_of(&buffer[..]);
+    let outcome = call_copy::copy_item_from(image, page, source, index as usize, stop as usize);
+    boundary_results::hand_back(buffer, outcome)
 }
 
 // Marks the entries of an item Erased (`erase_item`).
@@ -199,9 +199,9 @@ pub extern "C" fn nvs_erase(image: &mut [u8], buffer: &mut [u8], index: u64, spa
     if buffer.len() != RECORD_SIZE {
         return BAD_CALL;
     }
-    let page = encoding::record_of(&buffer[..]);
-    let outcome = erase::erase_item(image, page, index as usize, span as usize);
-    handing::hand_back(buffer, outcome)
+    let page = boundary_encoding::record_of(&buffer[..]);
+    let outcome = call_erase::erase_item(image, page, index as usize, span as usize);
+    boundary_results::hand_back(buffer, outcome)
 }
 
 // Zeroes entries from an index on (`purge_entries`).
@@ -210,7 +210,7 @@ pub extern "C" fn nvs_purge(image: &mut [u8], index: u64, span: u64) -> u32
     ensures number { λ r. ⌜ r ≡ numberOf (purge (now (image .entry))) ⌝ }
     ensures image { λ r. ⌜ now (image .exit) ≡ purgeImage (now (image .entry)) index span ⌝ }
 {
-    let answer = purge::purge_entries(image, index as usize, span as usize);
+    let answer = call_purge::purge_entries(image, index as usize, span as usize);
     answers::number_of(answer) as u32
 }
 
@@ -224,7 +224,7 @@ pub extern "C" fn nvs_purge_namespace(image: &mut [u8], buffer: &mut [u8], names
     if buffer.len() != RECORD_SIZE {
         return BAD_CALL;
     }
-    let page = encoding::record_of(&buffer[..]);
-    let outcome = purge_namespace::purge_erased_for_namespace(image, page, namespace);
-    handing::hand_back(buffer, outcome)
+    let page = boundary_encoding::record_of(&buffer[..]);
+    let outcome = call_purge_namespace::purge_erased_for_namespace(image, page, namespace);
+    boundary_results::hand_back(buffer, outcome)
 }

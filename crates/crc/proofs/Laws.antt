@@ -14,7 +14,7 @@ use lib.ListN.{length, getD, take, drop, length-take, length-drop, take-append-d
 use lib.Pow.{split, pow-pos, ones-sub-lt}
 use lib.Seq.{take-all, drop-cons, drop-drop, getD-drop}
 use Rattle.crc.specs.Crc.{feedback, shift, shifts, intake, register, not32, crc32}
-use Rattle.nibble.specs.Nibble.{number}
+use Rattle.crc_tables.specs.Nibble.{number}
 
 -- ---- exclusive or
 

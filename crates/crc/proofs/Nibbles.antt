@@ -13,7 +13,7 @@ use lib.Dec.{ltb}
 use lib.ListN.{List·getD-append, length, getD, length-append, length-map}
 use lib.Seq.{getD-append-add}
 use Rattle.crc.specs.Crc.{shift, shifts}
-use Rattle.nibble.specs.Nibble.{ones, spread, nibble}
+use Rattle.crc_tables.specs.Nibble.{ones, spread, nibble}
 use Rattle.crc.proofs.Laws.{shifts-xor, shifts-add, shifts-shifted, digit-xor}
 
 -- ---- a number from the values of its bits

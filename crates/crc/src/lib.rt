@@ -3,7 +3,7 @@ ghost use mathlib.Core.Path.{_≡_};
 ghost use Prim.Native.Nat.{_+_, _%_, _<_, _≤_};
 ghost use lib.ListN.{length, take, drop};
 ghost use Rattle.crc.specs.Crc.{shifts, intake, register, crc32};
-ghost use Rattle.nibble.specs.Nibble.{number};
+ghost use Rattle.crc_tables.specs.Nibble.{number};
 
 // 32 shifts of a word, by its eight nibbles.
 fn shift_32(word: u32) -> u32
@@ -16,14 +16,14 @@ fn shift_32(word: u32) -> u32
     let rest5 = rest4 / 16;
     let rest6 = rest5 / 16;
     let rest7 = rest6 / 16;
-    nibble::nibble_4(rest7)
-        ^ nibble::nibble_8(rest6 % 16)
-        ^ nibble::nibble_12(rest5 % 16)
-        ^ nibble::nibble_16(rest4 % 16)
-        ^ nibble::nibble_20(rest3 % 16)
-        ^ nibble::nibble_24(rest2 % 16)
-        ^ nibble::nibble_28(rest1 % 16)
-        ^ nibble::nibble_32(word % 16)
+    crc_tables::nibble_4(rest7)
+        ^ crc_tables::nibble_8(rest6 % 16)
+        ^ crc_tables::nibble_12(rest5 % 16)
+        ^ crc_tables::nibble_16(rest4 % 16)
+        ^ crc_tables::nibble_20(rest3 % 16)
+        ^ crc_tables::nibble_24(rest2 % 16)
+        ^ crc_tables::nibble_28(rest1 % 16)
+        ^ crc_tables::nibble_32(word % 16)
 }
 
 // 64 shifts of a word: its own, and those of the word behind it.
@@ -37,14 +37,14 @@ fn shift_64(word: u32) -> u32
     let rest5 = rest4 / 16;
     let rest6 = rest5 / 16;
     let rest7 = rest6 / 16;
-    nibble::nibble_36(rest7)
-        ^ nibble::nibble_40(rest6 % 16)
-        ^ nibble::nibble_44(rest5 % 16)
-        ^ nibble::nibble_48(rest4 % 16)
-        ^ nibble::nibble_52(rest3 % 16)
-        ^ nibble::nibble_56(rest2 % 16)
-        ^ nibble::nibble_60(rest1 % 16)
-        ^ nibble::nibble_64(word % 16)
+    crc_tables::nibble_36(rest7)
+        ^ crc_tables::nibble_40(rest6 % 16)
+        ^ crc_tables::nibble_44(rest5 % 16)
+        ^ crc_tables::nibble_48(rest4 % 16)
+        ^ crc_tables::nibble_52(rest3 % 16)
+        ^ crc_tables::nibble_56(rest2 % 16)
+        ^ crc_tables::nibble_60(rest1 % 16)
+        ^ crc_tables::nibble_64(word % 16)
 }
 
 fn wide(byte: u8) -> u32
@@ -82,7 +82,7 @@ fn intake_byte(register: u32, byte: u8) -> u32
 {
     let whole = register ^ wide(byte);
     let rest = whole / 16;
-    rest / 16 ^ nibble::nibble_4(rest % 16) ^ nibble::nibble_8(whole % 16)
+    rest / 16 ^ crc_tables::nibble_4(rest % 16) ^ crc_tables::nibble_8(whole % 16)
 }
 
 fn intake_bytes(start: u32, bytes: &[u8]) -> u32

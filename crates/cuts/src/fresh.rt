@@ -1,8 +1,8 @@
 // A 4,000-byte curve on a fresh page.
-use cutting::Sector;
+use cuts_append::Sector;
+use cuts_request::Request;
 use page::Listed;
 use page::ThinPage;
-use request::Request;
 use sector::PageState;
 
 fn uninitialized() -> ThinPage {
@@ -22,7 +22,7 @@ fn uninitialized() -> ThinPage {
 
 fn page() -> Sector {
     let mut image = [0xFFu8; 4096];
-    let outcome = header::initialize(&mut image, uninitialized(), 1, 8);
+    let outcome = call_page_state::initialize(&mut image, uninitialized(), 1, 8);
     let page = outcome.page;
     Sector { image, page }
 }
@@ -56,8 +56,8 @@ fn curve() -> Request {
 
 pub(crate) fn print_all() {
     let mut payload = [0u8; 4000];
-    cutting::fill(&mut payload);
-    report::print_cuts(
+    cuts_append::fill(&mut payload);
+    cuts_report::print_cuts(
         b"cuts of a 4,000-byte curve on a fresh page",
         b"curve",
         page(),

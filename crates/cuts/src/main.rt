@@ -6,7 +6,7 @@ mod fresh;
 
 fn main() {
     if os::arg_count() > 1 {
-        report::print_arguments();
+        cuts_report::print_arguments();
         return;
     }
     fresh::print_all();

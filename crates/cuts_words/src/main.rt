@@ -1,6 +1,6 @@
 // The program `cuts` with arguments, 32 bytes at next free 15; and what it says of words that are wrong, of files that are no sector, and of pages
 // that refuse: a line each.
-use report::print_words;
+use cuts_report::print_words;
 
 // On a page with 15 entries: a curve of 32 bytes in a namespace.
 fn in_namespace(namespace: &[u8]) {
@@ -51,7 +51,7 @@ fn refusals() {
 }
 
 fn main() {
-    report::print_arguments();
+    cuts_report::print_arguments();
     words();
     files();
     refusals();

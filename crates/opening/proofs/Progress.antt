@@ -22,13 +22,13 @@ use Rattle.sector.specs.Map.{unpack, statesOf, stateAt, markRange}
 use Rattle.sector.proofs.Laws.{drop-replicate, length-statesOf, length-markRange, length-entriesOf}
 use Rattle.sector.proofs.Marks.{marked, take-marked, drop-marked, marked-erased, statesOf-markRange, unpack-markRange, bytes-markRange}
 use Rattle.opening.specs.declared.Listing.{Listing}
-use Rattle.reading.specs.declared.Verdict.{Verdict}
-use Rattle.reading.specs.declared.Verdict.the-variants.{NotAnItem, RefusedEntry, RefusedItem, Kept}
-use Rattle.reading.specs.Reading.{Item, isUsable, usable, verdictAt, stepsOver, markOf, markBehind, walk, withKept, keptFrom}
+use Rattle.opening_reading.specs.declared.Verdict.{Verdict}
+use Rattle.opening_reading.specs.declared.Verdict.the-variants.{NotAnItem, RefusedEntry, RefusedItem, Kept}
+use Rattle.opening_reading.specs.Reading.{Item, isUsable, usable, verdictAt, stepsOver, markOf, markBehind, walk, withKept, keptFrom}
 use Rattle.opening.specs.Opening.{isRefusedItem, refusedHeaders, listedItems}
 use Rattle.opening.specs.Steps.{markedBy, listingOf, withItem, listedBy}
-use Rattle.reading.proofs.Entries.{states-from, entries-from}
-use Rattle.reading.proofs.Midway.{both-written}
+use Rattle.opening_reading.proofs.Entries.{states-from, entries-from}
+use Rattle.opening_reading.proofs.Midway.{both-written}
 use Rattle.opening.proofs.Steps.{walk-skip, refused-headers-skip, kept-skip, steps-over-le, kept-usable}
 
 -- ---- lists done so far

@@ -10,12 +10,12 @@ use native.Mathlib.Omega.{arith}
 use lib.ListN.{length, take, drop, replicate}
 use Rattle.sector.specs.declared.EntryMapState.{EntryMapState}
 use Rattle.sector.specs.declared.EntryMapState.the-variants.{Empty, Written, Erased, Illegal}
-use Rattle.reading.specs.declared.Reason.{Reason}
-use Rattle.reading.specs.declared.Verdict.the-variants.{Kept}
-use Rattle.reading.specs.Reading.{covered, headerRefusal, payloadRefusal, usable, itemVerdict, headerVerdict, verdictAt, stepsOver, walk, keptFrom}
+use Rattle.opening_reading.specs.declared.Reason.{Reason}
+use Rattle.opening_reading.specs.declared.Verdict.the-variants.{Kept}
+use Rattle.opening_reading.specs.Reading.{covered, headerRefusal, payloadRefusal, usable, itemVerdict, headerVerdict, verdictAt, stepsOver, walk, keptFrom}
 use Rattle.opening.specs.Opening.{refusedHeaders}
-use Rattle.reading.proofs.Midway.{walk-zero}
-use Rattle.reading.proofs.Verdicts.{header-fits}
+use Rattle.opening_reading.proofs.Midway.{walk-zero}
+use Rattle.opening_reading.proofs.Verdicts.{header-fits}
 
 pub walk-skip : (k : ℕ) (mark : EntryMapState) (states : List EntryMapState) (entries : List (List ℕ)) → k ≤ length states → k ≤ length entries
     → walk k mark states entries ≡ replicate k mark ++ walk zero Erased (drop k states) (drop k entries)

@@ -23,10 +23,10 @@ use Rattle.sector.specs.Header.{stateOfWord, headerCrc}
 use Rattle.sector.specs.Item.{hashOfItem}
 use Rattle.sector.specs.Layout.{sectorSize, entriesPerPage, mapOf, entriesOf, stateWord, sequenceOf, versionOf, storedHeaderCrc, namespaceOf}
 use Rattle.sector.specs.Map.{statesOf, unpack, pack, countIn}
-use Rattle.marks.specs.Marks.{firstPass, changedUnits}
-use Rattle.reading.specs.declared.Verdict.{Verdict}
-use Rattle.reading.specs.declared.Verdict.the-variants.{NotAnItem, RefusedEntry, RefusedItem, Kept}
-use Rattle.reading.specs.Reading.{verdictAt, stepsOver, Item, item, keptFrom, openedStates}
+use Rattle.opening_marks.specs.Marks.{firstPass, changedUnits}
+use Rattle.opening_reading.specs.declared.Verdict.{Verdict}
+use Rattle.opening_reading.specs.declared.Verdict.the-variants.{NotAnItem, RefusedEntry, RefusedItem, Kept}
+use Rattle.opening_reading.specs.Reading.{verdictAt, stepsOver, Item, item, keptFrom, openedStates}
 pub use Rattle.opening.specs.declared.HeaderVerdict.{HeaderVerdict}
 pub use Rattle.opening.specs.declared.HeaderVerdict.the-variants.{Blank, Opens, WrongPageState, WrongVersion, WrongHeaderCrc}
 

@@ -16,8 +16,8 @@ use Rattle.sector.specs.Item.{hashOfItem}
 use Rattle.sector.specs.Layout.{stateWord, sequenceOf, versionOf, storedHeaderCrc, namespaceOf}
 use Rattle.sector.specs.Map.{statesOf, countIn, markRange}
 use Rattle.opening.specs.declared.Listing.{Listing}
-use Rattle.reading.specs.declared.Verdict.{Verdict}
-use Rattle.reading.specs.declared.Verdict.the-variants.{NotAnItem, RefusedEntry, RefusedItem, Kept}
+use Rattle.opening_reading.specs.declared.Verdict.{Verdict}
+use Rattle.opening_reading.specs.declared.Verdict.the-variants.{NotAnItem, RefusedEntry, RefusedItem, Kept}
 
 -- the map, with the mark that the verdict at entry i gives
 abbrev pub markedBy : Verdict → ℕ → List ℕ → List ℕ

@@ -30,7 +30,7 @@ pub(crate) fn header_verdict(image: &[u8]) -> HeaderVerdict
     requires { ⌜ length (now image) ≡ sectorSize ⌝ }
     ensures { λ r. ⌜ r ≡ headerVerdictOf (now (image .entry)) ⌝ }
 {
-    let state = page_header::state_of_word(bytes::number_at(image, 0));
+    let state = sector_header::state_of_word(bytes::number_at(image, 0));
     if fit::is_uninitialized(state) {
         if flash::all_ones(image) {
             return HeaderVerdict::Blank;

@@ -6,8 +6,8 @@ ghost use lib.ListN.{length};
 ghost use Rattle.sector.specs.Layout.{sectorSize, entriesPerPage, entryAt};
 ghost use Rattle.opening.specs.Steps.{listingOf, withItem, listedBy};
 use crate::Listing;
+use opening_reading::Verdict;
 use page::Listed;
-use reading::Verdict;
 
 // No place in use.
 pub(crate) fn empty() -> Listing
@@ -28,7 +28,7 @@ fn with_item(listing: Listing, entry: [u8; 32], index: usize) -> Listing
     if entry[0] == 0 {
         return listing;
     }
-    let hash = hash::hash_of_item(entry);
+    let hash = sector_hash::hash_of_item(entry);
     let len = listing.len;
     let mut list = listing.list;
     list[len as usize] = Listed {
@@ -47,6 +47,6 @@ pub(crate) fn listed_by(listing: Listing, image: &[u8], index: usize, verdict: V
         Verdict::NotAnItem => listing,
         Verdict::RefusedEntry(_) => listing,
         Verdict::RefusedItem(_, _) => listing,
-        Verdict::Kept(_) => with_item(listing, load::entry_at(image, index), index),
+        Verdict::Kept(_) => with_item(listing, call_load::entry_at(image, index), index),
     }
 }

@@ -86,8 +86,8 @@ fn opened_page(image: &mut [u8]) -> ThinPage
     let first = plan.first;
     let page = plan.page;
     let opened = page.map;
-    marks::program_changes(image, map, first);
-    marks::program_changes(image, first, opened);
+    opening_marks::program_changes(image, map, first);
+    opening_marks::program_changes(image, first, opened);
     page
 }
 

@@ -29,10 +29,10 @@ fn record_of(image: &[u8], map: [u8; 32], listing: Listing) -> ThinPage
     requires { ⌜ length (now image) ≡ sectorSize ⌝ }
     ensures { λ r. ⌜ r ≡ recordOf (now (image .entry)) map listing ⌝ }
 {
-    let state = page_header::state_of_word(bytes::number_at(image, 0));
+    let state = sector_header::state_of_word(bytes::number_at(image, 0));
     let sequence = bytes::number_at(image, 4);
     let crc = bytes::number_at(image, 28);
-    let statistics = map::get_entry_statistics(map);
+    let statistics = sector_map::get_entry_statistics(map);
     let used = statistics.written as u8;
     let erased = statistics.erased as u8;
     let list = listing.list;
@@ -57,9 +57,9 @@ pub(crate) fn changes(image: &[u8]) -> Changes
     let map = map_of(image);
     let walked = walk::walk(image, map);
     let marked = walked.map;
-    let opened = marks::shut_before_tail(image, marked);
+    let opened = opening_marks::shut_before_tail(image, marked);
     let heads = walked.heads;
-    let first = marks::first_pass(map, opened, heads);
+    let first = opening_marks::first_pass(map, opened, heads);
     let listing = walked.listing;
     let page = record_of(image, opened, listing);
     Changes { map, first, page }

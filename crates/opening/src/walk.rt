@@ -4,12 +4,12 @@ ghost use Prim.Native.Nat.{zero, _+_, _<_};
 ghost use lib.ListN.{length, drop};
 ghost use Rattle.sector.specs.Layout.{sectorSize, entriesPerPage, entriesOf};
 ghost use Rattle.sector.specs.Map.{unpack, statesOf};
-ghost use Rattle.reading.specs.Reading.{stepsOver, walk, keptFrom};
+ghost use Rattle.opening_reading.specs.Reading.{stepsOver, walk, keptFrom};
 ghost use Rattle.opening.specs.Opening.{isRefusedItem, refusedHeaders, listedItems};
 ghost use Rattle.opening.specs.Steps.{markedBy, listingOf};
 use crate::Walked;
 use crate::kept;
-use reading::Verdict;
+use opening_reading::Verdict;
 use sector::ENTRIES_PER_PAGE;
 use sector::EntryMapState;
 
@@ -42,12 +42,12 @@ fn marked_by(map: [u8; 32], index: usize, verdict: Verdict) -> [u8; 32]
 {
     match verdict {
         Verdict::NotAnItem => map,
-        Verdict::RefusedEntry(_) => map::mark_range(map, EntryMapState::Erased, index, 1),
+        Verdict::RefusedEntry(_) => sector_map::mark_range(map, EntryMapState::Erased, index, 1),
         Verdict::RefusedItem(_, covered) => {
-            map::mark_range(map, EntryMapState::Erased, index, covered + 1)
+            sector_map::mark_range(map, EntryMapState::Erased, index, covered + 1)
         }
         Verdict::Kept(covered) => {
-            map::mark_range(map, EntryMapState::Written, index, covered + 1)
+            sector_map::mark_range(map, EntryMapState::Written, index, covered + 1)
         }
     }
 }
@@ -62,7 +62,7 @@ pub(crate) fn walk(image: &[u8], map: [u8; 32]) -> Walked
     let mut listing = kept::empty();
     let mut index: usize = 0;
     while index < ENTRIES_PER_PAGE {
-        let verdict = reading::verdict_at(image, map, index);
+        let verdict = opening_reading::verdict_at(image, map, index);
         let next = marked_by(marked, index, verdict);
         marked = next;
         heads[index] = is_refused_item(verdict);

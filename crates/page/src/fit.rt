@@ -128,7 +128,7 @@ pub fn fit_to_use(page: ThinPage) -> bool
         return false;
     }
     let map = page.map;
-    if map::get_entry_statistics(map).written > page.used as u32 {
+    if sector_map::get_entry_statistics(map).written > page.used as u32 {
         return false;
     }
     let list = page.list;

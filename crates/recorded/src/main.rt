@@ -5,8 +5,8 @@ mod replay;
 mod show;
 mod tally;
 
-use frames::head;
-use frames::head::Head;
+use recorded_file::head;
+use recorded_file::head::Head;
 
 fn main() {
     match head::read() {

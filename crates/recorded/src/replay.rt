@@ -2,17 +2,17 @@
 ghost use mathlib.Core.Path.{_≡_};
 ghost use mathlib.Core.Bool.{true};
 ghost use lib.ListN.{length, take};
-ghost use Rattle.frames.specs.Buffers.{allSize, changedSize};
+ghost use Rattle.recorded_file.specs.Buffers.{allSize, changedSize};
 use crate::tally;
 use crate::tally::NONE;
 use crate::tally::Tally;
-use frames::buffers::ALL;
-use frames::buffers::CHANGED;
-use frames::buffers::IMAGE;
-use frames::frame;
-use frames::frame::Frame;
-use frames::frame::Status;
 use libc::STDIN_FILENO;
+use recorded_file::buffers::ALL;
+use recorded_file::buffers::CHANGED;
+use recorded_file::buffers::IMAGE;
+use recorded_file::frame;
+use recorded_file::frame::Frame;
+use recorded_file::frame::Status;
 
 const FRAME_SIZE: usize = 8;
 
@@ -48,7 +48,7 @@ fn end(open: bool) -> Status {
 fn case(frame: Frame, all: &[u8; ALL], left: &mut [u8; CHANGED], tally: Tally) -> Replayed {
     let open = tally.open != NONE;
     if frame.kind == frame::CALL && !open {
-        let status = calls::run(frame.name, all, left);
+        let status = recorded_calls::run(frame.name, all, left);
         return Replayed {
             status,
             tally: tally.called(frame.name),

@@ -2,8 +2,8 @@
 use crate::replay::Replayed;
 use crate::tally::NONE;
 use crate::tally::Tally;
-use frames::frame::Status;
 use libc::STDOUT_FILENO;
+use recorded_file::frame::Status;
 
 const NAME_SIZE: usize = 20;
 

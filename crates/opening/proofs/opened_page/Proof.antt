@@ -4,7 +4,7 @@ use borrow.Author.Needs.{needs}
 use Rattle.flash.proofs.Laws.{run-append}
 use Rattle.page.specs.declared.ThinPage.{ThinPage}
 use Rattle.sector.specs.Layout.{mapOf}
-use Rattle.marks.specs.Marks.{changedUnits}
+use Rattle.opening_marks.specs.Marks.{changedUnits}
 use Rattle.opening.specs.Opening.{openedMap, firstMap, openingPlan, openedPage}
 use Rattle.opening.proofs.opened_page.Statement.{statement}
 use Rattle.opening.proofs.opened_page.Tie as tie

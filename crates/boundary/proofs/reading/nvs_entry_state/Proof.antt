@@ -7,7 +7,7 @@ use borrow.Author.Needs.{needs}
 use Rattle.sector.specs.declared.StateAnswer.{StateAnswer}
 use Rattle.sector.specs.Answers.{numberOf, carriedByte}
 use Rattle.sector.specs.Map.{bitsOf, entryState}
-use Rattle.encoding.specs.Encoding.{answerBytes, zeroItem, noCounts, wrongSize}
+use Rattle.boundary_encoding.specs.Encoding.{answerBytes, zeroItem, noCounts, wrongSize}
 use Rattle.boundary.specs.Boundary.{badAnswer, stateGiven}
 use Rattle.boundary.proofs.Laws.{wrong-size, right-size, first-wrong, second-wrong, both-right, given-bad, given-answer}
 use Rattle.boundary.proofs.reading.nvs_entry_state.Statement.{statement}

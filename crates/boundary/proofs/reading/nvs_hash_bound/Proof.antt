@@ -5,8 +5,8 @@ use Prim.Native.Nat.{ℕ}
 use borrow.Author.Needs.{needs}
 use Rattle.sector.specs.declared.Answer.the-variants.{Done}
 use Rattle.sector.specs.Layout.{chunks}
-use Rattle.bound.specs.Bound.{hashBound}
-use Rattle.encoding.specs.Encoding.{answerBytes, zeroItem, noCounts, wrongSize}
+use Rattle.call_hash_bound.specs.Bound.{hashBound}
+use Rattle.boundary_encoding.specs.Encoding.{answerBytes, zeroItem, noCounts, wrongSize}
 use Rattle.boundary.specs.Boundary.{badAnswer, boundGiven}
 use Rattle.boundary.proofs.Laws.{wrong-size, right-size, first-wrong, second-wrong, both-right, given-bad, given-answer}
 use Rattle.boundary.proofs.reading.nvs_hash_bound.Statement.{statement}

@@ -2,10 +2,10 @@
 use mathlib.Core.Path.{ap, _∙_}
 use lib.ListN.{length}
 use borrow.Author.Needs.{needs}
-use Rattle.payload.specs.declared.DataLoaded.{DataLoaded}
-use Rattle.payload.specs.Payload.{dataAnswer}
+use Rattle.call_load_data.specs.declared.DataLoaded.{DataLoaded}
+use Rattle.call_load_data.specs.Payload.{dataAnswer}
 use Rattle.sector.specs.Answers.{numberOf, carriedByte}
-use Rattle.encoding.specs.Encoding.{answerBytes, zeroItem, noCounts}
+use Rattle.boundary_encoding.specs.Encoding.{answerBytes, zeroItem, noCounts}
 use Rattle.boundary.specs.Boundary.{badAnswer, dataGiven, dataLeft}
 use Rattle.boundary.proofs.Laws.{wrong-size, right-size, given-bad, given-answer}
 use Rattle.boundary.proofs.reading.nvs_load_data.Statement.{statement}

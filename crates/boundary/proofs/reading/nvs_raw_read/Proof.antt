@@ -1,10 +1,10 @@
 -- `nvs_raw_read` meets its contract: a wrong size changes nothing, else the call's answer is laid out.
 use mathlib.Core.Path.{ap, _∙_}
 use borrow.Author.Needs.{needs}
-use Rattle.load.specs.declared.Loaded.{Loaded}
-use Rattle.load.specs.Load.{rawEntry}
+use Rattle.call_load.specs.declared.Loaded.{Loaded}
+use Rattle.call_load.specs.Load.{rawEntry}
 use Rattle.sector.specs.Answers.{numberOf, carriedByte}
-use Rattle.encoding.specs.Encoding.{answerBytes, noCounts}
+use Rattle.boundary_encoding.specs.Encoding.{answerBytes, noCounts}
 use Rattle.boundary.specs.Boundary.{badAnswer, rawGiven}
 use Rattle.boundary.proofs.Laws.{wrong-size, right-size, given-bad, given-answer}
 use Rattle.boundary.proofs.reading.nvs_raw_read.Statement.{statement}

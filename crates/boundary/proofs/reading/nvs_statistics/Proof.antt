@@ -5,7 +5,7 @@ use borrow.Author.Needs.{needs}
 use Rattle.sector.specs.declared.Answer.the-variants.{Done}
 use Rattle.sector.specs.declared.Statistics.{Statistics}
 use Rattle.sector.specs.Map.{statistics}
-use Rattle.encoding.specs.Encoding.{answerBytes, zeroItem, wrongSize}
+use Rattle.boundary_encoding.specs.Encoding.{answerBytes, zeroItem, wrongSize}
 use Rattle.boundary.specs.Boundary.{badAnswer, statisticsGiven}
 use Rattle.boundary.proofs.Laws.{wrong-size, right-size, first-wrong, second-wrong, both-right, given-bad, given-answer}
 use Rattle.boundary.proofs.reading.nvs_statistics.Statement.{statement}

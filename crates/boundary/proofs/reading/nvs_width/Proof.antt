@@ -4,7 +4,7 @@ use borrow.Author.Needs.{needs}
 use Rattle.sector.specs.declared.WidthAnswer.{WidthAnswer}
 use Rattle.sector.specs.Answers.{numberOf, carriedByte}
 use Rattle.sector.specs.Types.{primitiveWidth}
-use Rattle.encoding.specs.Encoding.{answerBytes, zeroItem, noCounts}
+use Rattle.boundary_encoding.specs.Encoding.{answerBytes, zeroItem, noCounts}
 use Rattle.boundary.specs.Boundary.{badAnswer, widthGiven}
 use Rattle.boundary.proofs.Laws.{wrong-size, right-size, given-bad, given-answer}
 use Rattle.boundary.proofs.reading.nvs_width.Statement.{statement}

@@ -4,10 +4,10 @@ use mathlib.Core.Bool.{_||_}
 use mathlib.Core.List.{List}
 use Prim.Native.Nat.{ℕ}
 use borrow.Author.Needs.{needs}
-use Rattle.append.specs.declared.Single.{Single}
-use Rattle.append.specs.Append.{appendSingle, appendSingleImage}
+use Rattle.call_append.specs.declared.Single.{Single}
+use Rattle.call_append.specs.Append.{appendSingle, appendSingleImage}
 use Rattle.page.specs.declared.ThinPage.{ThinPage}
-use Rattle.encoding.specs.Encoding.{recordOf, wrongSize}
+use Rattle.boundary_encoding.specs.Encoding.{recordOf, wrongSize}
 use Rattle.boundary.specs.Boundary.{badRecordSize, singleOf, singleLeft}
 use Rattle.boundary.proofs.Laws.{wrong-size, right-size, first-wrong, second-wrong, both-right, left-bad, left-outcome}
 use Rattle.boundary.proofs.writing.nvs_append_single.Statement.{statement}

@@ -3,7 +3,7 @@ use mathlib.Core.Path.{refl, ap, _∙_}
 use borrow.Author.Needs.{needs}
 use Rattle.page.specs.declared.Outcome.{Outcome}
 use Rattle.sector.specs.Answers.{numberOf}
-use Rattle.encoding.specs.Encoding.{recordBytes}
+use Rattle.boundary_encoding.specs.Encoding.{recordBytes}
 use Rattle.boundary.specs.Boundary.{openLeft}
 use Rattle.boundary.proofs.Laws.{wrong-size, right-size}
 use Rattle.boundary.proofs.writing.nvs_open.Statement.{statement}

@@ -1,4 +1,4 @@
--- `header::header_verdict` meets its contract: each `return` is the first rule of the header that decides.
+-- `call_page_state::header_verdict` meets its contract: each `return` is the first rule of the header that decides.
 use mathlib.Core.Path.{_≡_, refl, sym, ap, _∙_}
 use mathlib.Core.Bool.{true, false, false≢true}
 use borrow.Author.Needs.{needs}

@@ -9,12 +9,12 @@ use Rattle.sector.specs.declared.EntryMapState.{EntryMapState}
 use Rattle.sector.specs.Layout.{entriesPerPage, mapOf, entriesOf}
 use Rattle.sector.specs.Map.{unpack, pack, statesOf}
 use Rattle.opening.specs.declared.Listing.{Listing}
-use Rattle.reading.specs.Reading.{shutBeforeTail, openedStates}
-use Rattle.marks.specs.Marks.{firstPass}
+use Rattle.opening_reading.specs.Reading.{shutBeforeTail, openedStates}
+use Rattle.opening_marks.specs.Marks.{firstPass}
 use Rattle.opening.specs.Opening.{keptItems, listedItems, openedMap, refusedHeaders, firstMap, openedPage}
 use Rattle.opening.specs.Steps.{listingOf, recordOf}
-use Rattle.marks.proofs.Arrays.{bytes-of-array}
-use Rattle.marks.proofs.Passes.{map-states}
+use Rattle.opening_marks.proofs.Arrays.{bytes-of-array}
+use Rattle.opening_marks.proofs.Passes.{map-states}
 use Rattle.opening.proofs.plan.changes.Statement.{statement}
 use Rattle.opening.proofs.plan.changes.Tie as tie
 

@@ -4,8 +4,8 @@ use Prim.Native.Nat.{_+_, _-_, _<_, _≤_}
 use native.Mathlib.Omega.{arith}
 use borrow.Author.Needs.{needs}
 use lib.ListN.{length}
-use Rattle.reading.specs.Reading.{stepsOver}
-use Rattle.marks.proofs.Arrays.{bytes-of-array}
+use Rattle.opening_reading.specs.Reading.{stepsOver}
+use Rattle.opening_marks.proofs.Arrays.{bytes-of-array}
 use Rattle.opening.proofs.Progress.{verdictOf, steps-inside, MarkedTo, marked-start, marked-step, marked-end, HeadsTo, heads-start, heads-step, heads-end, ListedTo, listed-start, listed-step, listed-end}
 use Rattle.opening.proofs.walk.walk.Statement.{statement}
 use Rattle.opening.proofs.walk.walk.Tie as tie

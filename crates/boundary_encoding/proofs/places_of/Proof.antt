@@ -1,0 +1,74 @@
+-- `places_of` meets its contract: after k turns the first k places are those of the bytes.
+use mathlib.Core.Path.{_≡_, sym, ap, _∙_}
+use Prim.Native.Nat.{_-_, _*_, _≤_}
+use native.Mathlib.Omega.{arith}
+use borrow.Author.Needs.{needs}
+use lib.ListN.{length, take, drop, length-set}
+use lib.Seq.{drop-drop}
+use Rattle.page.specs.Record.{noItem}
+use Rattle.boundary_encoding.specs.Encoding.{placeOf, placesOf}
+use Rattle.boundary_encoding.proofs.Laws.{made-next, made-whole, length-placesOf, getD-placesOf}
+use Rattle.boundary_encoding.proofs.places_of.Statement.{statement}
+use Rattle.boundary_encoding.proofs.places_of.Tie as tie
+
+abbrev Inv-loop : tie.InvT-loop
+Inv-loop bytes list₀ k₀ list k = (k ≤ 126) × (length list ≡ 126) × (take k list ≡ take k (placesOf 126 (drop 45 bytes)))
+
+abbrev μ-loop : tie.MeasureT-loop
+μ-loop bytes list₀ k₀ list k = 126 - k
+
+loop-holds : tie.Need-loop-holds Inv-loop μ-loop
+loop-holds c = search needs
+
+mul-place-at : tie.Need-mul-place-at Inv-loop μ-loop
+mul-place-at c = search needs
+
+add-place-at : tie.Need-add-place-at Inv-loop μ-loop
+add-place-at c = search needs
+
+place-at-requires : tie.Need-place-at-requires Inv-loop μ-loop
+place-at-requires c κs = search needs
+
+mul-list : tie.Need-mul-list Inv-loop μ-loop
+mul-list c = search needs
+
+array-set-from-list : tie.Need-array-set-from-list Inv-loop μ-loop
+array-set-from-list c = search needs
+
+add-k : tie.Need-add-k Inv-loop μ-loop
+add-k c = search needs
+
+loop-less : tie.Need-loop-less Inv-loop μ-loop
+loop-less c = search needs
+
+loop-again : tie.Need-loop-again Inv-loop μ-loop
+loop-again c =
+    let at = c .before .before .loop in
+    let bytes = c .before .before .before .before .args .bytes .now in
+    let target = placesOf 126 (drop 45 bytes) in
+    let long = length-placesOf 126 (drop 45 bytes) in
+    let place = c .place-at .ensures ∙ ap placeOf (sym (drop-drop (5 * at .k) 45 bytes)) ∙ sym (getD-placesOf 126 (at .k) (drop 45 bytes) (omega arith)) in
+    (omega arith, simp length-set (at .inv .1), made-next (at .list) target (at .k) noItem (omega arith) (omega (arith, long)) (at .inv .2) place)
+
+returns : tie.Need-returns Inv-loop μ-loop
+returns c =
+    let at = c .before .loop in
+    let bytes = c .before .before .before .args .bytes .now in
+    made-whole (at .list) (placesOf 126 (drop 45 bytes)) (at .k) (omega arith) (omega (arith, length-placesOf 126 (drop 45 bytes))) (at .inv .2)
+
+pub places-of-spec : {M : Type 1} → statement M
+places-of-spec =
+    tie.close
+    (tie.spec
+    Inv-loop
+    μ-loop
+    loop-holds
+    mul-place-at
+    add-place-at
+    place-at-requires
+    mul-list
+    array-set-from-list
+    add-k
+    loop-less
+    loop-again
+    returns)

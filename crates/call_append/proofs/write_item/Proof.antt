@@ -1,0 +1,103 @@
+-- `write_item` meets its contract: a refusal leaves all as it is, else the plan's units are done up to the stop.
+-- Assumes nothing.
+use mathlib.Core.Path.{_≡_, refl, ap, _∙_}
+use mathlib.Core.Bool.{true}
+use lib.ListN.{take}
+use borrow.Author.Needs.{needs}
+use borrow.Author.Tests.{not-true, not-false}
+use Rattle.page.specs.declared.ThinPage.{ThinPage}
+use Rattle.page.specs.Record.{withItem}
+use Rattle.page.specs.Writing.{stops}
+use Rattle.page.proofs.Checks.{accepted-done, call-refused, call-stopped, call-done}
+use Rattle.sector.specs.Answers.{accepted}
+use Rattle.call_append.specs.Append.{singleChecks, singlePlan, withSingle, appendSingle, appendSingleImage}
+use Rattle.call_append.proofs.Laws.{single-room}
+use Rattle.call_append.proofs.write_item.Statement.{statement}
+use Rattle.call_append.proofs.write_item.Tie as tie
+
+-- the test says whether the checks accept
+tested : (c : tie.After-is-done) →
+    let z = c .before .before .before .before .args in
+    accepted (singleChecks (z .image .now) (z .page) (z .item)) ≡ c .is-done .result
+tested c =
+    let z = c .before .before .before .before .args in
+    accepted-done (singleChecks (z .image .now) (z .page) (z .item)) refl (c .before .single-refusal .ensures) (c .is-done .ensures)
+
+passed : (c : tie.Else1) →
+    let z = c .before .before .before .before .before .args in
+    accepted (singleChecks (z .image .now) (z .page) (z .item)) ≡ true
+passed c = tested (c .before) ∙ not-false (c .before .is-done .result) (c .if1 .left)
+
+single-refusal-requires : tie.Need-single-refusal-requires
+single-refusal-requires c κs = search needs
+
+is-done-requires : tie.Need-is-done-requires
+is-done-requires c κs = search needs
+
+same-length : tie.Need-same-length
+same-length c = search needs
+
+returns : tie.Need-returns
+unfolding appendSingle appendSingleImage
+returns c =
+    let z = c .before .before .before .before .before .args in
+    let plan = singlePlan (z .page) (z .item) in
+    call-refused (singleChecks (z .image .now) (z .page) (z .item)) (z .page) (withSingle (z .page) (z .item)) (z .image .now)
+    (stops (z .stop) plan) (take (z .stop) plan)
+    (c .before .before .single-refusal .ensures)
+    (tested (c .before) ∙ not-true (c .before .is-done .result) (c .if1 .taken))
+
+with-single-requires : tie.Need-with-single-requires
+with-single-requires c κs =
+    let z = c .before .before .before .before .before .args in
+    let room = single-room (z .image .now) (z .page) (z .item) (passed c) in
+    (room .fit, room .room)
+
+write-single-requires : tie.Need-write-single-requires
+unfolding withItem
+write-single-requires c κs =
+    let new = c .before .before in
+    let z = new .before .before .before .before .before .before .args in
+    let room = single-room (z .image .now) (z .page) (z .item) (passed (new .before)) in
+    (room .whole, room .room, ap (λ (page : ThinPage). page .map) (new .with-single .ensures))
+
+same-length-2 : tie.Need-same-length-2
+same-length-2 c = search needs
+
+returns-2 : tie.Need-returns-2
+unfolding appendSingle appendSingleImage
+returns-2 c =
+    let written = c .before .before .before in
+    let else = written .before .before .before .before in
+    let z = else .before .before .before .before .before .args in
+    call-stopped (singleChecks (z .image .now) (z .page) (z .item)) (z .page) (withSingle (z .page) (z .item)) (z .image .now)
+    (z .stop) (singlePlan (z .page) (z .item)) (passed else)
+    (written .write-single .ensures .0) (c .if2 .taken) (written .write-single .ensures .1)
+
+same-length-3 : tie.Need-same-length-3
+same-length-3 c = search needs
+
+returns-3 : tie.Need-returns-3
+unfolding appendSingle appendSingleImage
+returns-3 c =
+    let written = c .before .before .before in
+    let new = written .before .before .before in
+    let z = new .before .before .before .before .before .before .args in
+    call-done (singleChecks (z .image .now) (z .page) (z .item)) (z .page) (withSingle (z .page) (z .item)) (z .image .now)
+    (z .stop) (singlePlan (z .page) (z .item)) (passed (new .before))
+    (written .write-single .ensures .0) (c .if2 .left) (new .with-single .ensures) (written .write-single .ensures .1)
+
+pub write-item-spec : {M : Type 1} → statement M
+write-item-spec =
+    tie.close
+    (tie.spec
+    single-refusal-requires
+    is-done-requires
+    same-length
+    returns
+    with-single-requires
+    write-single-requires
+    same-length-2
+    returns-2
+    same-length-3
+    returns-3)

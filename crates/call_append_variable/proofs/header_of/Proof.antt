@@ -1,0 +1,32 @@
+-- `header_of` meets its contract: the item's bytes, of the data's size and CRC.
+-- Assumes nothing.
+use mathlib.Core.Path.{ap₂, _∙_}
+use mathlib.Core.List.{List}
+use Prim.Native.Nat.{ℕ}
+use borrow.Author.Needs.{needs}
+use Rattle.sector.specs.Item.{itemBytes}
+use Rattle.call_append_variable.proofs.header_of.Statement.{statement}
+use Rattle.call_append_variable.proofs.header_of.Tie as tie
+
+span-for-requires : tie.Need-span-for-requires
+span-for-requires c κs = search needs
+
+sized-data-requires : tie.Need-sized-data-requires
+sized-data-requires c κs = search needs
+
+cast-item-bytes : tie.Need-cast-item-bytes
+cast-item-bytes c = search needs
+
+item-bytes-requires : tie.Need-item-bytes-requires
+item-bytes-requires c κs = search needs
+
+returns : tie.Need-returns
+returns c =
+    let given = c .before .before .before .before .before .args .item in
+    c .item-bytes .ensures
+    ∙ ap₂ (λ (span : ℕ) (bytes : List ℕ). itemBytes (given .namespace) (given .kind) span (given .chunk) (given .key) bytes) (c .before .before .before .span-for .ensures) (c .before .sized-data .ensures)
+
+pub header-of-spec : {M : Type 1} → statement M
+header-of-spec =
+    tie.close
+    (tie.spec span-for-requires sized-data-requires cast-item-bytes item-bytes-requires returns)

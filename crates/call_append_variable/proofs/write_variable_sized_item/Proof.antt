@@ -1,0 +1,103 @@
+-- `write_variable_sized_item` meets its contract: a refusal leaves all as it is, else the plan's units are done up to the stop.
+-- Assumes nothing.
+use mathlib.Core.Path.{_≡_, refl, ap, _∙_}
+use mathlib.Core.Bool.{true}
+use lib.ListN.{take}
+use borrow.Author.Needs.{needs}
+use borrow.Author.Tests.{not-true, not-false}
+use Rattle.page.specs.declared.ThinPage.{ThinPage}
+use Rattle.page.specs.Record.{withItem}
+use Rattle.page.specs.Writing.{stops}
+use Rattle.page.proofs.Checks.{accepted-done, call-refused, call-stopped, call-done}
+use Rattle.sector.specs.Answers.{accepted}
+use Rattle.call_append.specs.Append.{variableChecks, variablePlan, withVariable, appendVariable, appendVariableImage}
+use Rattle.call_append_variable.proofs.Laws.{variable-room}
+use Rattle.call_append_variable.proofs.write_variable_sized_item.Statement.{statement}
+use Rattle.call_append_variable.proofs.write_variable_sized_item.Tie as tie
+
+-- the test says whether the checks accept
+tested : (c : tie.After-is-done) →
+    let z = c .before .before .before .before .before .args in
+    accepted (variableChecks (z .image .now) (z .page) (z .item) (z .payload .now)) ≡ c .is-done .result
+tested c =
+    let z = c .before .before .before .before .before .args in
+    accepted-done (variableChecks (z .image .now) (z .page) (z .item) (z .payload .now)) refl (c .before .variable-refusal .ensures) (c .is-done .ensures)
+
+passed : (c : tie.Else1) →
+    let z = c .before .before .before .before .before .before .args in
+    accepted (variableChecks (z .image .now) (z .page) (z .item) (z .payload .now)) ≡ true
+passed c = tested (c .before) ∙ not-false (c .before .is-done .result) (c .if1 .left)
+
+variable-refusal-requires : tie.Need-variable-refusal-requires
+variable-refusal-requires c κs = search needs
+
+is-done-requires : tie.Need-is-done-requires
+is-done-requires c κs = search needs
+
+same-length : tie.Need-same-length
+same-length c = search needs
+
+returns : tie.Need-returns
+unfolding appendVariable appendVariableImage
+returns c =
+    let z = c .before .before .before .before .before .before .args in
+    let plan = variablePlan (z .page) (z .item) (z .payload .now) in
+    call-refused (variableChecks (z .image .now) (z .page) (z .item) (z .payload .now)) (z .page) (withVariable (z .page) (z .item) (z .payload .now)) (z .image .now)
+    (stops (z .stop) plan) (take (z .stop) plan)
+    (c .before .before .variable-refusal .ensures)
+    (tested (c .before) ∙ not-true (c .before .is-done .result) (c .if1 .taken))
+
+with-variable-requires : tie.Need-with-variable-requires
+with-variable-requires c κs =
+    let z = c .before .before .before .before .before .before .args in
+    let room = variable-room (z .image .now) (z .page) (z .item) (z .payload .now) (passed c) in
+    (room .fit, room .room)
+
+write-variable-requires : tie.Need-write-variable-requires
+unfolding withItem
+write-variable-requires c κs =
+    let new = c .before .before in
+    let z = new .before .before .before .before .before .before .before .args in
+    let room = variable-room (z .image .now) (z .page) (z .item) (z .payload .now) (passed (new .before)) in
+    (room .whole, room .room, ap (λ (page : ThinPage). page .map) (new .with-variable .ensures))
+
+same-length-2 : tie.Need-same-length-2
+same-length-2 c = search needs
+
+returns-2 : tie.Need-returns-2
+unfolding appendVariable appendVariableImage
+returns-2 c =
+    let written = c .before .before .before in
+    let else = written .before .before .before .before in
+    let z = else .before .before .before .before .before .before .args in
+    call-stopped (variableChecks (z .image .now) (z .page) (z .item) (z .payload .now)) (z .page) (withVariable (z .page) (z .item) (z .payload .now)) (z .image .now)
+    (z .stop) (variablePlan (z .page) (z .item) (z .payload .now)) (passed else)
+    (written .write-variable .ensures .0) (c .if2 .taken) (written .write-variable .ensures .1)
+
+same-length-3 : tie.Need-same-length-3
+same-length-3 c = search needs
+
+returns-3 : tie.Need-returns-3
+unfolding appendVariable appendVariableImage
+returns-3 c =
+    let written = c .before .before .before in
+    let new = written .before .before .before in
+    let z = new .before .before .before .before .before .before .before .args in
+    call-done (variableChecks (z .image .now) (z .page) (z .item) (z .payload .now)) (z .page) (withVariable (z .page) (z .item) (z .payload .now)) (z .image .now)
+    (z .stop) (variablePlan (z .page) (z .item) (z .payload .now)) (passed (new .before))
+    (written .write-variable .ensures .0) (c .if2 .left) (new .with-variable .ensures) (written .write-variable .ensures .1)
+
+pub write-variable-sized-item-spec : {M : Type 1} → statement M
+write-variable-sized-item-spec =
+    tie.close
+    (tie.spec
+    variable-refusal-requires
+    is-done-requires
+    same-length
+    returns
+    with-variable-requires
+    write-variable-requires
+    same-length-2
+    returns-2
+    same-length-3
+    returns-3)

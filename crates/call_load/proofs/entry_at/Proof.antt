@@ -1,0 +1,74 @@
+-- `call_load::entry_at` meets its contract: after k turns the first k bytes are those of the entry.
+use mathlib.Core.Path.{_≡_}
+use mathlib.Core.List.{_++_, append-nil}
+use Prim.Native.Nat.{ℕ, _+_, _-_, _*_, _≤_, _<_}
+use native.Mathlib.Omega.{arith}
+use borrow.Author.Needs.{needs}
+use lib.ListN.{length, take, drop, replicate, length-drop}
+use lib.Seq.{getD-drop}
+use Rattle.sector.proofs.Laws.{copied-next}
+use Rattle.call_load.proofs.entry_at.Statement.{statement}
+use Rattle.call_load.proofs.entry_at.Tie as tie
+
+abbrev Inv-loop : tie.InvT-loop
+Inv-loop image index start entry₀ k₀ entry k =
+    (k ≤ 32) × (entry ≡ take k (drop (64 + 32 * index) image) ++ drop k (replicate 32 0))
+
+abbrev μ-loop : tie.MeasureT-loop
+μ-loop image index start entry₀ k₀ entry k = 32 - k
+
+mul-start : tie.Need-mul-start Inv-loop μ-loop
+mul-start c = search needs
+
+add-start : tie.Need-add-start Inv-loop μ-loop
+add-start c = search needs
+
+loop-holds : tie.Need-loop-holds Inv-loop μ-loop
+loop-holds c = search needs
+
+add-entry : tie.Need-add-entry Inv-loop μ-loop
+add-entry c = search needs
+
+shared-slice-read-entry : tie.Need-shared-slice-read-entry Inv-loop μ-loop
+shared-slice-read-entry c = search needs
+
+array-write-entry : tie.Need-array-write-entry Inv-loop μ-loop
+array-write-entry c = search needs
+
+add-k : tie.Need-add-k Inv-loop μ-loop
+add-k c = search needs
+
+loop-less : tie.Need-loop-less Inv-loop μ-loop
+loop-less c = search needs
+
+loop-again : tie.Need-loop-again Inv-loop μ-loop
+loop-again c =
+    let args = c .before .before .before .args in
+    let at = c .before .before .loop in
+    let start : ℕ = 64 + 32 * args .index in
+    let part = drop start (args .image .now) in
+    let inside : at .k < length part = rw (length-drop start (args .image .now)) (omega arith) in
+    (omega arith, rw (at .inv .1, ← getD-drop start (args .image .now) (at .k) 0) (copied-next part (replicate 32 0) (at .k) inside (omega arith)))
+
+returns : tie.Need-returns Inv-loop μ-loop
+returns c =
+    let at = c .before .loop in
+    let whole : at .k ≡ 32 = omega arith in
+    rw (at .inv .1, whole) (append-nil _)
+
+pub entry-at-spec : {M : Type 1} → statement M
+entry-at-spec =
+    tie.close
+    (tie.spec
+    Inv-loop
+    μ-loop
+    mul-start
+    add-start
+    loop-holds
+    add-entry
+    shared-slice-read-entry
+    array-write-entry
+    add-k
+    loop-less
+    loop-again
+    returns)

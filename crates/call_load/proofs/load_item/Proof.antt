@@ -1,0 +1,112 @@
+-- `call_load::load_item` meets its contract: it refuses what `entryChecks` refuses, then what does not load, and else has the item.
+use mathlib.Core.Path.{_≡_, refl, sym, _∙_}
+use mathlib.Core.Bool.{true}
+use mathlib.Core.List.{List}
+use Prim.Native.Nat.{ℕ}
+use lib.Dec.{eqb}
+use lib.ListN.{set}
+use borrow.Author.Needs.{needs}
+use borrow.Author.Tests.{eq-eqb, ne-eqb, not-true, not-false}
+use Rattle.sector.specs.Answers.{accepted}
+use Rattle.sector.specs.Layout.{entryAt}
+use Rattle.sector.specs.Types.{sanitized}
+use Rattle.call_load.specs.Load.{entryChecks, loadItem}
+use Rattle.call_load.proofs.Laws.{accepted-number, entry-fits, loadedOr-refused, loadedOr-accepted}
+use Rattle.call_load.proofs.load_item.Statement.{statement}
+use Rattle.call_load.proofs.load_item.Tie as tie
+
+module _ (c : tie.After-number-of) where
+  abbrev image : List ℕ
+  image = c .before .before .before .args .image .now
+
+  abbrev index : ℕ
+  index = c .before .before .before .args .index
+
+  -- the refusal's number tells whether the first checks accept
+  checked : accepted (entryChecks image index) ≡ eqb (c .number-of .result) 0
+  checked = accepted-number (entryChecks image index) _ _ refl (c .before .entry-refusal .ensures) (c .number-of .ensures)
+
+enters : (c : tie.Else1) → accepted (entryChecks (image (c .before)) (index (c .before))) ≡ true
+enters c = checked (c .before) ∙ eq-eqb _ _ (c .if1 .left)
+
+-- the item is the entry with its type byte made one of the thirteen
+item-made : (c : tie.After-type-byte)
+    → let at = c .before .before .before in
+    set (c .before .entry-at .result) 1 (c .type-byte .result) ≡ sanitized (entryAt (image at) (index at))
+item-made c = rw (c .type-byte .ensures, c .before .entry-at .ensures)
+
+entry-refusal-requires : tie.Need-entry-refusal-requires
+entry-refusal-requires c κs = search needs
+
+number-of-requires : tie.Need-number-of-requires
+number-of-requires c κs = search needs
+
+refused-requires : tie.Need-refused-requires
+refused-requires c κs = search needs
+
+returns : tie.Need-returns
+unfolding loadItem
+returns c =
+    let at = c .before .before in
+    let refused = checked at ∙ ne-eqb _ _ (c .before .if1 .taken) in
+    rw (loadedOr-refused (entryChecks (image at) (index at)) _ _ refused, ← at .before .entry-refusal .ensures) (c .refused .ensures)
+
+entry-at-requires : tie.Need-entry-at-requires
+entry-at-requires c κs = entry-fits (image (c .before)) (index (c .before)) (enters c)
+
+array-read-type-byte : tie.Need-array-read-type-byte
+array-read-type-byte c = search needs
+
+type-byte-requires : tie.Need-type-byte-requires
+type-byte-requires c κs = search needs
+
+array-write-item : tie.Need-array-write-item
+array-write-item c = search needs
+
+loads-at-requires : tie.Need-loads-at-requires
+loads-at-requires c κs =
+    let at = c .before .before .before in
+    let fits = entry-fits (image at) (index at) (enters (c .before .before)) in
+    (fits .0, fits .1, item-made c)
+
+refused-requires-2 : tie.Need-refused-requires-2
+refused-requires-2 c κs = search needs
+
+returns-2 : tie.Need-returns-2
+unfolding loadItem
+returns-2 c =
+    let made = c .before .before .before in
+    let at = made .before .before .before in
+    rw (
+      loadedOr-accepted (entryChecks (image at) (index at)) _ _ (enters (made .before .before)),
+      sym (c .before .before .loads-at .ensures) ∙ not-true _ (c .before .if2 .taken),
+    )
+    (c .refused2 .ensures)
+
+returns-3 : tie.Need-returns-3
+unfolding loadItem
+returns-3 c =
+    let made = c .before .before in
+    let at = made .before .before .before in
+    rw (
+      loadedOr-accepted (entryChecks (image at) (index at)) _ _ (enters (made .before .before)),
+      sym (c .before .loads-at .ensures) ∙ not-false _ (c .if2 .left),
+      item-made made,
+    )
+
+pub load-item-spec : {M : Type 1} → statement M
+load-item-spec =
+    tie.close
+    (tie.spec
+    entry-refusal-requires
+    number-of-requires
+    refused-requires
+    returns
+    entry-at-requires
+    array-read-type-byte
+    type-byte-requires
+    array-write-item
+    loads-at-requires
+    refused-requires-2
+    returns-2
+    returns-3)

@@ -1,0 +1,84 @@
+-- `call_load::loads_at` meets its contract: its part of the image is the entry, and there lies the CRC that is compared.
+use mathlib.Core.Path.{_≡_, sym, ap, ap₂, _∙_}
+use Prim.Native.Nat.{ℕ, _+_, _-_}
+use native.Mathlib.Omega.{arith}
+use borrow.Author.Needs.{needs}
+use lib.Dec.{eqb}
+use lib.ListN.{take, drop}
+use Rattle.flash.specs.Flash.{allOnes}
+use Rattle.sector.specs.Item.{loads, itemCrc}
+use Rattle.sector.specs.Layout.{number, entryAddress, entryAt}
+use Rattle.call_load.proofs.Laws.{field-entryAt}
+use Rattle.call_load.proofs.loads_at.Statement.{statement}
+use Rattle.call_load.proofs.loads_at.Tie as tie
+
+-- what was asked of the entry
+asked : (c : tie.After-all-ones)
+    → let args = c .before .before .before .args in
+    allOnes (entryAt (args .image .now) (args .index)) ≡ c .all-ones .result
+asked c =
+    let args = c .before .before .before .args in
+    let start = entryAddress (args .index) in
+    let e : start + 32 - start ≡ 32 = omega arith in
+    ap (λ (n : ℕ). allOnes (take n (drop start (args .image .now)))) (sym e) ∙ sym (c .all-ones .ensures)
+
+mul-start : tie.Need-mul-start
+mul-start c = search needs
+
+add-start : tie.Need-add-start
+add-start c = search needs
+
+add-end : tie.Need-add-end
+add-end c = search needs
+
+sub-all-ones : tie.Need-sub-all-ones
+sub-all-ones c = search needs
+
+part-all-ones-start : tie.Need-part-all-ones-start
+part-all-ones-start c = search needs
+
+part-all-ones-end : tie.Need-part-all-ones-end
+part-all-ones-end c = search needs
+
+all-ones-requires : tie.Need-all-ones-requires
+all-ones-requires c κs = search needs
+
+returns : tie.Need-returns
+unfolding loads
+returns c = rw (asked (c .before) ∙ c .if1 .taken)
+
+item-crc-requires : tie.Need-item-crc-requires
+item-crc-requires c κs = search needs
+
+add-number-at : tie.Need-add-number-at
+add-number-at c = search needs
+
+number-at-requires : tie.Need-number-at-requires
+number-at-requires c κs = search needs
+
+returns-2 : tie.Need-returns-2
+unfolding loads
+returns-2 c =
+    let past = c .before .before in
+    let args = past .before .before .before .before .args in
+    rw (asked (past .before) ∙ past .if1 .left)
+    (ap₂ eqb
+    (c .before .item-crc .ensures ∙ ap itemCrc (past .before .before .before .before .pre .2))
+    (c .number-at .ensures ∙ ap number (sym (field-entryAt (args .image .now) (args .index) 4 4 (omega arith)))))
+
+pub loads-at-spec : {M : Type 1} → statement M
+loads-at-spec =
+    tie.close
+    (tie.spec
+    mul-start
+    add-start
+    add-end
+    sub-all-ones
+    part-all-ones-start
+    part-all-ones-end
+    all-ones-requires
+    returns
+    item-crc-requires
+    add-number-at
+    number-at-requires
+    returns-2)

@@ -1,0 +1,63 @@
+-- `call_load::read_raw_entry` meets its contract: it refuses what `entryChecks` refuses, and else has the entry as it lies.
+use mathlib.Core.Path.{_≡_, refl, _∙_}
+use mathlib.Core.Bool.{true}
+use mathlib.Core.List.{List, []}
+use Prim.Native.Nat.{ℕ}
+use lib.Dec.{eqb}
+use borrow.Author.Needs.{needs}
+use borrow.Author.Tests.{eq-eqb, ne-eqb}
+use Rattle.sector.specs.Answers.{accepted}
+use Rattle.call_load.specs.Load.{entryChecks, rawEntry}
+use Rattle.call_load.proofs.Laws.{accepted-number, entry-fits, loadedOr-refused, loadedOr-accepted}
+use Rattle.call_load.proofs.read_raw_entry.Statement.{statement}
+use Rattle.call_load.proofs.read_raw_entry.Tie as tie
+
+module _ (c : tie.After-number-of) where
+  abbrev image : List ℕ
+  image = c .before .before .before .args .image .now
+
+  abbrev index : ℕ
+  index = c .before .before .before .args .index
+
+  -- the refusal's number tells whether the first checks accept
+  checked : accepted (entryChecks image index) ≡ eqb (c .number-of .result) 0
+  checked = accepted-number (entryChecks image index) _ _ refl (c .before .entry-refusal .ensures) (c .number-of .ensures)
+
+enters : (c : tie.Else1) → accepted (entryChecks (image (c .before)) (index (c .before))) ≡ true
+enters c = checked (c .before) ∙ eq-eqb _ _ (c .if1 .left)
+
+entry-refusal-requires : tie.Need-entry-refusal-requires
+entry-refusal-requires c κs = search needs
+
+number-of-requires : tie.Need-number-of-requires
+number-of-requires c κs = search needs
+
+refused-requires : tie.Need-refused-requires
+refused-requires c κs = search needs
+
+returns : tie.Need-returns
+unfolding rawEntry
+returns c =
+    let at = c .before .before in
+    let refused = checked at ∙ ne-eqb _ _ (c .before .if1 .taken) in
+    rw (loadedOr-refused (entryChecks (image at) (index at)) [] _ refused, ← at .before .entry-refusal .ensures) (c .refused .ensures)
+
+entry-at-requires : tie.Need-entry-at-requires
+entry-at-requires c κs = entry-fits (image (c .before)) (index (c .before)) (enters c)
+
+returns-2 : tie.Need-returns-2
+unfolding rawEntry
+returns-2 c =
+    let at = c .before .before in
+    rw (loadedOr-accepted (entryChecks (image at) (index at)) [] _ (enters (c .before)), c .entry-at .ensures)
+
+pub read-raw-entry-spec : {M : Type 1} → statement M
+read-raw-entry-spec =
+    tie.close
+    (tie.spec
+    entry-refusal-requires
+    number-of-requires
+    refused-requires
+    returns
+    entry-at-requires
+    returns-2)

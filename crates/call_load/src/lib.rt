@@ -1,0 +1,132 @@
+// Reading items out of a sector (page.rs): load and raw read. The data behind an item is `payload`'s.
+use sector::Answer;
+use sector::ENTRIES_PER_PAGE;
+use sector::answers;
+use sector::bytes;
+ghost use mathlib.Core.Path.{_≡_};
+ghost use Prim.Native.Nat.{_+_, _*_, _^_, _<_};
+ghost use lib.ListN.{length};
+ghost use Rattle.sector.specs.Layout.{sectorSize, entriesPerPage, entryAt, sizeOf};
+ghost use Rattle.sector.specs.Item.{loads};
+ghost use Rattle.sector.specs.Types.{sanitized};
+ghost use Rattle.sector.specs.Answers.{refusal};
+ghost use Rattle.call_load.specs.Load.{entryChecks, rawEntry, loadItem, refusedItem};
+
+const SECTOR_SIZE: usize = 4096;
+
+const ENTRY_SIZE: usize = 32;
+
+const ITEMS_OFFSET: usize = 64;
+
+// An entry's 32 bytes, all zero where the answer is not Done.
+pub struct Loaded {
+    pub answer: Answer,
+    pub item: [u8; 32],
+}
+
+// The first of raw read's checks that refuses, or Done.
+fn entry_refusal(image: &[u8], index: usize) -> Answer
+    ensures { λ r. ⌜ r ≡ refusal (entryChecks (now (image .entry)) index) ⌝ }
+{
+    if image.len() != SECTOR_SIZE {
+        return Answer::BadImage;
+    }
+    if index >= ENTRIES_PER_PAGE {
+        return Answer::CorruptedData;
+    }
+    Answer::Done
+}
+
+// The 32 bytes of an entry, as they lie.
+pub fn entry_at(image: &[u8], index: usize) -> [u8; 32]
+    requires { ⌜ (length (now image) ≡ sectorSize) × (index < entriesPerPage) ⌝ }
+    ensures { λ r. ⌜ r ≡ entryAt (now (image .entry)) index ⌝ }
+{
+    let start = ITEMS_OFFSET + ENTRY_SIZE * index;
+    let mut entry = [0u8; 32];
+    for k in 0..32usize {
+        entry[k] = image[start + k];
+    }
+    entry
+}
+
+// No item, and why.
+fn refused(answer: Answer) -> Loaded
+    ensures { λ r. ⌜ r ≡ refusedItem answer ⌝ }
+{
+    Loaded {
+        answer,
+        item: [0u8; 32],
+    }
+}
+
+// The 32 bytes of an entry as they lie (`ThinPage::read_raw_entry`).
+//
+// Refuses an image that is not 4,096 bytes (BadImage), then an index over 125 (CorruptedData). The Rust
+// checks neither: past the last entry it reads the next sector.
+pub fn read_raw_entry(image: &[u8], index: usize) -> Loaded
+    ensures { λ r. ⌜ r ≡ rawEntry (now (image .entry)) index ⌝ }
+{
+    let answer = entry_refusal(image, index);
+    if answers::number_of(answer) != 0 {
+        return refused(answer);
+    }
+    let item = entry_at(image, index);
+    Loaded {
+        answer: Answer::Done,
+        item,
+    }
+}
+
+// Whether an entry loads, of which the item is already made: not all 0xFF, and its CRC is right.
+//
+// It does what `sector_item::loads` does, and reads the image itself: a copy of the entry costs a third of a load.
+fn loads_at(image: &[u8], index: usize, item: [u8; 32]) -> bool
+    requires { ⌜ (length (now image) ≡ sectorSize) × (index < entriesPerPage) × (item ≡ sanitized (entryAt (now image) index)) ⌝ }
+    ensures { λ r. ⌜ r ≡ loads (entryAt (now (image .entry)) index) ⌝ }
+{
+    let start = ITEMS_OFFSET + ENTRY_SIZE * index;
+    let end = start + ENTRY_SIZE;
+    if flash::all_ones(&image[start..end]) {
+        return false;
+    }
+    let crc = sector_item::item_crc(item);
+    crc == bytes::number_at(image, start + 4)
+}
+
+// The item whose header is an entry (`ThinPage::load_item`), its type byte made 0xFF where it is none of
+// the thirteen. The map is not consulted, so an erased item still loads.
+//
+// Refuses an image that is not 4,096 bytes (BadImage), an index over 125 (CorruptedData), then an entry
+// that is all 0xFF or whose CRC is wrong (KeyNotFound). The Rust checks neither image nor index.
+pub fn load_item(image: &[u8], index: usize) -> Loaded
+    ensures { λ r. ⌜ r ≡ loadItem (now (image .entry)) index ⌝ }
+{
+    let answer = entry_refusal(image, index);
+    if answers::number_of(answer) != 0 {
+        return refused(answer);
+    }
+    let mut item = entry_at(image, index);
+    item[1] = sector_types::type_byte(item[1]);
+    if !loads_at(image, index, item) {
+        return refused(Answer::KeyNotFound);
+    }
+    Loaded {
+        answer: Answer::Done,
+        item,
+    }
+}
+
+// Two bytes as a number, the low one first.
+fn u16_of(low: u8, high: u8) -> usize
+    ensures { λ r. ⌜ (r ≡ low + 256 * high) × (r < 2 ^ 16) ⌝ }
+{
+    low as usize + 256 * high as usize
+}
+
+// The payload's size, as an item's header entry has it.
+pub fn size_of(entry: [u8; 32]) -> usize
+    ensures { λ r. ⌜ (r ≡ sizeOf entry) × (r < 2 ^ 16) ⌝ }
+{
+    u16_of(entry[24], entry[25])
+}

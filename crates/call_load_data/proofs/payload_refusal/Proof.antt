@@ -1,0 +1,142 @@
+-- `call_load_data::payload_refusal` meets its contract: each `return` is the first of `payloadChecks` that refuses, or none.
+use mathlib.Core.Path.{_≡_, sym, ap, _∙_}
+use mathlib.Core.Bool.{true, false}
+use Prim.Native.Nat.{ℕ, _+_}
+use native.Mathlib.Omega.{arith}
+use borrow.Author.Needs.{needs}
+use borrow.Author.Tests.{eq-eqb, ne-eqb, lt-ltb, le-ltb, not-true, not-false}
+use lib.Dec.{ltb}
+use Rattle.sector.specs.declared.Kind.{Kind}
+use Rattle.sector.specs.Layout.{entriesPerPage, spanOf, typeByteOf}
+use Rattle.sector.specs.Types.{kindOf, itemType, hasPayload}
+use Rattle.call_load_data.proofs.payload_refusal.Statement.{statement}
+use Rattle.call_load_data.proofs.payload_refusal.Tie as tie
+
+-- what the type byte decides on the payload
+payload-of : (k : Kind) (byte : ℕ) → k ≡ kindOf byte → k .payload ≡ hasPayload (itemType byte)
+unfolding kindOf
+payload-of k byte e = ap (λ (k : Kind). k .payload) e
+
+-- past the first check a payload lies behind the header
+payload : (c : tie.Else1) → hasPayload (itemType (typeByteOf (c .before .before .before .args .t1))) ≡ true
+payload c =
+    let called = c .before .before in
+    sym (payload-of (called .kind-of .result) (typeByteOf (called .before .args .t1)) (called .kind-of .ensures)) ∙ not-false _ (c .if1 .left)
+
+-- past the third the span stays on the page
+spans : (c : tie.Else3)
+    → let args = c .before .before .before .before .before .args in
+    ltb entriesPerPage (args .index + spanOf (args .t1)) ≡ false
+spans c =
+    let args = c .before .before .before .before .before .args in
+    le-ltb entriesPerPage (args .index + spanOf (args .t1)) (omega arith)
+
+array-read-kind-of : tie.Need-array-read-kind-of
+array-read-kind-of c = search needs
+
+kind-of-requires : tie.Need-kind-of-requires
+kind-of-requires c κs = search needs
+
+array-read-type-byte : tie.Need-array-read-type-byte
+array-read-type-byte c = search needs
+
+type-byte-requires : tie.Need-type-byte-requires
+type-byte-requires c κs = search needs
+
+returns : tie.Need-returns
+returns c =
+    let called = c .before .before .before in
+    rw (
+      sym (payload-of (called .kind-of .result) (typeByteOf (called .before .args .t1)) (called .kind-of .ensures)) ∙ not-true _ (c .before .if1 .taken),
+      c .type-byte .ensures,
+    )
+
+array-read-span : tie.Need-array-read-span
+array-read-span c = search needs
+
+cast-span : tie.Need-cast-span
+cast-span c = search needs
+
+returns-2 : tie.Need-returns-2
+returns-2 c = rw (payload (c .before), eq-eqb _ _ (c .if2 .taken))
+
+sub-if3 : tie.Need-sub-if3
+sub-if3 c = search needs
+
+returns-3 : tie.Need-returns-3
+returns-3 c =
+    let args = c .before .before .before .before .before .args in
+    rw (payload (c .before .before), ne-eqb _ _ (c .before .if2 .left), lt-ltb entriesPerPage (args .index + spanOf (args .t1)) (omega arith))
+
+size-of-requires : tie.Need-size-of-requires
+size-of-requires c κs = search needs
+
+sub-if4 : tie.Need-sub-if4
+sub-if4 c = search needs
+
+mul-if4 : tie.Need-mul-if4
+mul-if4 c = search needs
+
+returns-4 : tie.Need-returns-4
+returns-4 c =
+    let spanned = c .before .before in
+    rw (
+      payload (spanned .before .before),
+      ne-eqb _ _ (spanned .before .if2 .left),
+      spans spanned,
+      ← c .before .size-of .ensures .0,
+      lt-ltb _ _ (c .if4 .taken),
+    )
+
+rounded-up-requires : tie.Need-rounded-up-requires
+rounded-up-requires c κs = search needs
+
+returns-5 : tie.Need-returns-5
+returns-5 c =
+    let held = c .before .before in
+    let spanned = held .before .before in
+    rw (
+      payload (spanned .before .before),
+      ne-eqb _ _ (spanned .before .if2 .left),
+      spans spanned,
+      ← held .before .size-of .ensures .0,
+      le-ltb _ _ (held .if4 .left),
+      ← c .before .rounded-up .ensures,
+      lt-ltb _ _ (c .if5 .taken),
+    )
+
+returns-6 : tie.Need-returns-6
+returns-6 c =
+    let held = c .before .before in
+    let spanned = held .before .before in
+    rw (
+      payload (spanned .before .before),
+      ne-eqb _ _ (spanned .before .if2 .left),
+      spans spanned,
+      ← held .before .size-of .ensures .0,
+      le-ltb _ _ (held .if4 .left),
+      ← c .before .rounded-up .ensures,
+      le-ltb _ _ (c .if5 .left),
+    )
+
+pub payload-refusal-spec : {M : Type 1} → statement M
+payload-refusal-spec =
+    tie.close
+    (tie.spec
+    array-read-kind-of
+    kind-of-requires
+    array-read-type-byte
+    type-byte-requires
+    returns
+    array-read-span
+    cast-span
+    returns-2
+    sub-if3
+    returns-3
+    size-of-requires
+    sub-if4
+    mul-if4
+    returns-4
+    rounded-up-requires
+    returns-5
+    returns-6)

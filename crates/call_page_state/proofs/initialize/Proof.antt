@@ -1,0 +1,130 @@
+-- `initialize` meets its contract: a refusal leaves all as it is, else the header's units are done up to the stop.
+-- Assumes nothing.
+use mathlib.Core.Path.{_≡_, refl, ap, _∙_}
+use mathlib.Core.Bool.{true, not}
+use mathlib.Core.List.{[], _∷_}
+use Prim.Native.Nat.{ℕ}
+use native.Mathlib.Omega.{arith}
+use lib.ListN.{length, take}
+use borrow.Author.Tests.{not-true, not-false}
+use Rattle.crc.specs.Crc.{crc32}
+use Rattle.flash.specs.Flash.{run, allOnes}
+use Rattle.page.specs.Record.{isUninitialized}
+use Rattle.page.specs.Writing.{stops}
+use Rattle.page.proofs.Checks.{accepted-done, accepted-usable, call-refused, call-stopped, call-done}
+use Rattle.sector.specs.declared.Answer.the-variants.{CorruptedData}
+use Rattle.sector.specs.Answers.{accepted}
+use Rattle.sector.specs.Header.{headerCrc, headerBody, headerBytes}
+use Rattle.sector.specs.Item.{crcStart}
+use Rattle.call_page_state.specs.Calls.{initialiseChecks, initialisePlan, initialised, initialise, initialiseImage}
+use borrow.Author.Needs.{needs}
+use Rattle.call_page_state.proofs.initialize.Statement.{statement}
+use Rattle.call_page_state.proofs.initialize.Tie as tie
+
+-- the CRC of a new header is that of its body
+header-crc-bytes : (sequence : ℕ) → headerCrc (headerBytes sequence) ≡ crc32 crcStart (headerBody sequence)
+unfolding headerCrc headerBytes
+header-crc-bytes sequence = refl
+
+-- the test says whether the checks accept
+tested : (c : tie.After-is-done) →
+    let z = c .before .before .before .before .args in
+    accepted (initialiseChecks (z .image .now) (z .page)) ≡ c .is-done .result
+tested c =
+    let z = c .before .before .before .before .args in
+    accepted-done (initialiseChecks (z .image .now) (z .page)) refl (c .before .initialize-refusal .ensures) (c .is-done .ensures)
+
+passed : (c : tie.Else1) →
+    let z = c .before .before .before .before .before .args in
+    accepted (initialiseChecks (z .image .now) (z .page)) ≡ true
+passed c = tested (c .before) ∙ not-false (c .before .is-done .result) (c .if1 .left)
+
+-- the write is the plan, up to the stop
+written : (c : tie.After-write-aligned) →
+    let z = c .before .before .before .before .before .before .before .before .before .args in
+    let plan = initialisePlan (z .sequence) in
+    (c .write-aligned .result ≡ length plan) × (c .write-aligned .last .0 ≡ run (take (z .stop) plan) (z .image .now))
+unfolding initialisePlan
+written c = rw (← c .before .before .before .header-bytes .ensures) (c .write-aligned .ensures)
+
+initialize-refusal-requires : tie.Need-initialize-refusal-requires
+initialize-refusal-requires c κs = search needs
+
+is-done-requires : tie.Need-is-done-requires
+is-done-requires c κs = search needs
+
+same-length : tie.Need-same-length
+same-length c = search needs
+
+returns : tie.Need-returns
+unfolding initialise initialiseImage
+returns c =
+    let z = c .before .before .before .before .before .args in
+    let plan = initialisePlan (z .sequence) in
+    call-refused (initialiseChecks (z .image .now) (z .page)) (z .page) (initialised (z .page) (z .sequence)) (z .image .now) (stops (z .stop) plan) (take (z .stop) plan)
+    (c .before .before .initialize-refusal .ensures) (tested (c .before) ∙ not-true (c .before .is-done .result) (c .if1 .taken))
+
+header-bytes-requires : tie.Need-header-bytes-requires
+header-bytes-requires c κs = search needs
+
+slice-aggregate-write-aligned : tie.Need-slice-aggregate-write-aligned
+slice-aggregate-write-aligned c = search needs
+
+write-aligned-requires : tie.Need-write-aligned-requires
+write-aligned-requires c κs =
+    let else = c .before .before .before in
+    let z = else .before .before .before .before .before .args in
+    let page = z .page in
+    let usable = accepted-usable (z .image .now) page (not (isUninitialized (page .state))) ((not (allOnes (z .image .now)), CorruptedData) ∷ []) (passed else) in
+    omega (arith, usable .whole)
+
+same-length-2 : tie.Need-same-length-2
+same-length-2 c = search needs
+
+returns-2 : tie.Need-returns-2
+unfolding initialise initialiseImage
+returns-2 c =
+    let write = c .before .before .before in
+    let else = write .before .before .before .before in
+    let z = else .before .before .before .before .before .args in
+    call-stopped (initialiseChecks (z .image .now) (z .page)) (z .page) (initialised (z .page) (z .sequence)) (z .image .now)
+    (z .stop) (initialisePlan (z .sequence)) (passed else) (written write .0) (c .if2 .taken) (written write .1)
+
+header-crc-requires : tie.Need-header-crc-requires
+header-crc-requires c κs = search needs
+
+initialized-requires : tie.Need-initialized-requires
+initialized-requires c κs =
+    let bytes = c .before .before .before .before .before .before .before in
+    c .header-crc .ensures ∙ ap headerCrc (bytes .header-bytes .ensures) ∙ header-crc-bytes (bytes .before .before .before .before .before .before .args .sequence)
+
+same-length-3 : tie.Need-same-length-3
+same-length-3 c = search needs
+
+returns-3 : tie.Need-returns-3
+unfolding initialise initialiseImage
+returns-3 c =
+    let whole = c .before .before in
+    let write = whole .before .before .before in
+    let else = write .before .before .before .before in
+    let z = else .before .before .before .before .before .args in
+    call-done (initialiseChecks (z .image .now) (z .page)) (z .page) (initialised (z .page) (z .sequence)) (z .image .now)
+    (z .stop) (initialisePlan (z .sequence)) (passed else) (written write .0) (whole .if2 .left) (c .initialized .ensures) (written write .1)
+
+pub initialize-spec : {M : Type 1} → statement M
+initialize-spec =
+    tie.close
+    (tie.spec
+    initialize-refusal-requires
+    is-done-requires
+    same-length
+    returns
+    header-bytes-requires
+    slice-aggregate-write-aligned
+    write-aligned-requires
+    same-length-2
+    returns-2
+    header-crc-requires
+    initialized-requires
+    same-length-3
+    returns-3)

@@ -1,0 +1,92 @@
+-- `opening_reading::all_usable` meets its contract: what is left to test decides as the whole does, since all before is usable.
+use mathlib.Core.Path.{_≡_, sym, _∙_}
+use mathlib.Core.Bool.{_&&_}
+use mathlib.Core.List.{List}
+use Prim.Native.Nat.{ℕ, suc, _+_, _-_, _<_, _≤_}
+use native.Mathlib.Nat.{add-zero, sub-zero}
+use native.Mathlib.Omega.{arith}
+use borrow.Author.Needs.{needs}
+use borrow.Author.Tests.{not-true, not-false}
+use lib.ListN.{length, drop}
+use lib.Seq.{drop-cons}
+use Rattle.sector.specs.declared.EntryMapState.the-variants.{Empty}
+use Rattle.sector.specs.Map.{stateAt, statesOf}
+use Rattle.sector.proofs.Laws.{length-statesOf, getD-statesOf}
+use Rattle.opening_reading.specs.Reading.{isUsable, usable}
+use Rattle.opening_reading.proofs.all_usable.Statement.{statement}
+use Rattle.opening_reading.proofs.all_usable.Tie as tie
+
+-- the first of n + 1 entries, and the rest
+usable-next : (map : List ℕ) (i n : ℕ) → length map ≡ 32 → i < 126
+    → usable (suc n) (drop i (statesOf map)) ≡ (isUsable (stateAt map i) && usable n (drop (suc i) (statesOf map)))
+usable-next map i n l h =
+    let inside : i < length (statesOf map) = rw (length-statesOf map l) h in
+    rw (drop-cons (statesOf map) i Empty inside, getD-statesOf map i l h)
+
+abbrev Inv-loop : tie.InvT-loop
+Inv-loop map first count k₀ k =
+    (k ≤ count) × (usable (count - k) (drop (first + k) (statesOf map)) ≡ usable count (drop first (statesOf map)))
+
+abbrev μ-loop : tie.MeasureT-loop
+μ-loop map first count k₀ k = count - k
+
+loop-holds : tie.Need-loop-holds Inv-loop μ-loop
+loop-holds c = (search needs, rw (sub-zero, add-zero))
+
+add-state-at : tie.Need-add-state-at Inv-loop μ-loop
+add-state-at c = search needs
+
+state-at-requires : tie.Need-state-at-requires Inv-loop μ-loop
+state-at-requires c κs = search needs
+
+is-usable-requires : tie.Need-is-usable-requires Inv-loop μ-loop
+is-usable-requires c κs = search needs
+
+-- in a turn: the next entry, and then what is left
+next : (c : tie.After-is-usable Inv-loop μ-loop)
+    → let args = c .before .before .before .before .args in
+    let k = c .before .before .before .loop .k in
+    usable (args .count) (drop (args .first) (statesOf (args .map)))
+    ≡ (c .is-usable .result && usable (args .count - (k + 1)) (drop (args .first + (k + 1)) (statesOf (args .map))))
+next c =
+    let args = c .before .before .before .before .args in
+    let at = c .before .before .before .loop in
+    let left : args .count - at .k ≡ suc (args .count - (at .k + 1)) = omega arith in
+    let behind : suc (args .first + at .k) ≡ args .first + (at .k + 1) = omega arith in
+    let full : length (args .map) ≡ 32 = omega arith in
+    sym (at .inv .1) ∙ rw (left, usable-next (args .map) (args .first + at .k) (args .count - (at .k + 1)) full (omega arith), behind, c .is-usable .ensures, c .before .state-at .ensures)
+
+returns : tie.Need-returns Inv-loop μ-loop
+returns c = sym (rw (not-true (c .before .is-usable .result) (c .if1 .taken)) at (next (c .before)))
+
+add-k : tie.Need-add-k Inv-loop μ-loop
+add-k c = search needs
+
+loop-less : tie.Need-loop-less Inv-loop μ-loop
+loop-less c = search needs
+
+loop-again : tie.Need-loop-again Inv-loop μ-loop
+loop-again c = (search needs, sym (rw (not-false (c .before .is-usable .result) (c .if1 .left)) at (next (c .before))))
+
+returns-2 : tie.Need-returns-2 Inv-loop μ-loop
+returns-2 c =
+    let args = c .before .before .args in
+    let at = c .before .loop in
+    let none : args .count - at .k ≡ 0 = omega arith in
+    rw none at (at .inv .1)
+
+pub all-usable-spec : {M : Type 1} → statement M
+all-usable-spec =
+    tie.close
+    (tie.spec
+    Inv-loop
+    μ-loop
+    loop-holds
+    add-state-at
+    state-at-requires
+    is-usable-requires
+    returns
+    add-k
+    loop-less
+    loop-again
+    returns-2)

@@ -1,0 +1,43 @@
+-- `sector_map::mark_mask` meets its contract: a shift of two bits a pair multiplies by 4, and nothing leaves the byte.
+use mathlib.Core.Path.{_≡_}
+use Prim.Native.Nat.{ℕ, zero, suc, _-_, _*_, _%_, _^_, _<_, _≤_}
+use native.Mathlib.Omega.{arith}
+use borrow.Author.Needs.{needs}
+use Rattle.sector.specs.Map.{bitsOf}
+use Rattle.sector.proofs.Laws.{bits-le}
+use Rattle.sector_map.proofs.mark_mask.Statement.{statement}
+use Rattle.sector_map.proofs.mark_mask.Tie as tie
+
+bits-of-requires : tie.Need-bits-of-requires
+bits-of-requires c κs = search needs
+
+sub-result : tie.Need-sub-result
+sub-result c = omega (arith, c .bits-of .ensures, bits-le (c .before .args .state))
+
+mul-result : tie.Need-mul-result
+mul-result c = search needs
+
+cast-result : tie.Need-cast-result
+cast-result c = search needs
+
+shl-result : tie.Need-shl-result
+shl-result c = search needs
+
+sub-result-2 : tie.Need-sub-result-2
+sub-result-2 c = search needs
+
+-- what a state clears of a pair stays within the byte
+shifted : (m k : ℕ) → m ≤ 3 → k < 4 → m * 2 ^ (2 * k) % 256 ≡ m * 4 ^ k
+shifted m zero h l = omega arith
+shifted m (suc zero) h l = omega arith
+shifted m (suc (suc zero)) h l = omega arith
+shifted m (suc (suc (suc zero))) h l = omega arith
+shifted m (suc (suc (suc (suc k)))) h l = absurd (omega arith)
+
+returns : tie.Need-returns
+returns c = rw (c .bits-of .ensures, shifted (3 - bitsOf (c .before .args .state)) (c .before .args .pair) (omega arith) (c .before .pre))
+
+pub mark-mask-spec : {M : Type 1} → statement M
+mark-mask-spec =
+    tie.close
+    (tie.spec bits-of-requires sub-result mul-result cast-result shl-result sub-result-2 returns)

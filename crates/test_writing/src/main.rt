@@ -1,0 +1,13 @@
+// What the calls give at both sides of each edge, in document 01's order; then calls that are cut short, and the page opened.
+mod copies;
+mod cuts;
+mod erases;
+mod purges;
+
+fn main() {
+    test_writing_cases::print_all();
+    copies::print_all();
+    erases::print_all();
+    purges::print_all();
+    cuts::print_all();
+}

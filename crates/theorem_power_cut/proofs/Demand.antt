@@ -1,0 +1,228 @@
+-- Demand 3 is proved: at every point of a history the page is held, so opening finds what was put, and a cut leaves the new item absent or whole.
+-- Assumes nothing.
+use mathlib.Core.Path.{_≡_, refl, sym, ap, _∙_, subst}
+use mathlib.Core.Bool.{false, cond}
+use mathlib.Core.List.{List, [], _∷_, _++_, List·Memᴰ, List·Memᴰ·not-nil}
+use mathlib.Core.Logic.{_⊎_, inl, inr}
+use Prim.Native.Nat.{ℕ, suc, _+_, _≤_, _<_}
+use native.Mathlib.Omega.{arith}
+use lib.Dec.{leb}
+use lib.ListN.{length, replicate}
+use borrow.Author.Tests.{eq-eqb}
+use Rattle.flash.specs.Flash.{run}
+use Rattle.flash.proofs.Laws.{all-ones-replicate, Outside, outside-within, outside-append, outside-take, take-drop-run}
+use Rattle.page.specs.declared.ThinPage.{ThinPage}
+use Rattle.page.specs.Record.{nextFree, uninitialized, withErased}
+use Rattle.page.specs.Writing.{answered, itemPlan}
+use Rattle.sector.specs.declared.Answer.the-variants.{Done}
+use Rattle.sector.specs.Header.{stateOfWord}
+use Rattle.sector.specs.Layout.{entryAddress, entryAt}
+use Rattle.sector.proofs.Marks.{within-mapUnits}
+use Rattle.call_erase.specs.Erase.{eraseChecks, erasePlan, erase, eraseImage}
+use Rattle.opening_reading.specs.Reading.{Item, item}
+use Rattle.opening.specs.Opening.{headerVerdictOf, keptItems, opening, openingImage}
+use Rattle.opening.specs.declared.HeaderVerdict.the-variants.{Blank}
+use Rattle.theorem_reopening.proofs.KeptItem.{member-split}
+use Rattle.theorem_writing.specs.Promises.{SetsNoBit, putting, erasing}
+use Rattle.theorem_writing.proofs.Promises.{only-clears-bits}
+use Rattle.theorem_power_cut.specs.History.{Write, asked, outcomeOf, imageOf, entriesOfWrite, entryUnits, newItem, withoutItem, History, opened, written, erased}
+use Rattle.theorem_power_cut.specs.PowerCut.{FindsWhatWasPut, Begins, AbsentOrWhole, AltersNoOtherEntry, ErasesMarksAlone}
+use Rattle.theorem_power_cut.proofs.Standing.{Standing, standing-size, standing-kept, standing-plan}
+use Rattle.theorem_power_cut.proofs.Begun.{within-full}
+use Rattle.theorem_power_cut.proofs.AtHand.{standing-page}
+use Rattle.theorem_power_cut.proofs.Headers.{opens-of}
+use Rattle.theorem_power_cut.proofs.Accepted.{begins-accepted, done-page}
+use Rattle.theorem_power_cut.proofs.Started.{page as at-hand, next-is, Started, started}
+use Rattle.theorem_power_cut.proofs.Held.{Held, Known, held, blank, blank-kept, opened-known}
+use Rattle.theorem_power_cut.proofs.Steps.{blank-refuses, opens-split, header-opens-here, cut-opens, cut-kept, done-held}
+use Rattle.theorem_power_cut.proofs.Erasing.{some, fits, run-erase, erased-standing, erased-header, erased-map, erased-front, with-erased}
+
+-- ---- every point of a history is known
+
+written-known : {image : List ℕ} {page : ThinPage} {items : List Item} → Known image page items → (write : Write) (n : ℕ)
+    → outcomeOf write image page n .answer ≡ Done
+    → Known (imageOf write image page n) (outcomeOf write image page n .page) (items ++ (newItem write page ∷ []))
+written-known {image} {page} {items} (held h) write n d =
+    subst
+    (λ (at-hand : ThinPage). outcomeOf write image at-hand n .answer ≡ Done
+    → Known (imageOf write image at-hand n) (outcomeOf write image at-hand n .page) (items ++ (newItem write at-hand ∷ [])))
+    (sym (h .page-is))
+    (λ d. held (done-held (h .standing) (h .opens) (started (h .standing) write n (inl d)) d))
+    d
+written-known {image} (blank i p e) write n d =
+    absurd (blank-refuses write image n (subst (λ (at-hand : ThinPage). Begins write image at-hand n) p (inl d)))
+
+module _ {image : List ℕ} {items : List Item} (p : Standing image items) (index : ℕ) (entries : List (List ℕ)) where
+  erase-image : erase image (at-hand p) index (length entries) .answer ≡ Done
+      → eraseImage image (at-hand p) index (length entries) ≡ run (erasePlan (at-hand p) index (length entries)) image
+  unfolding erase eraseImage
+  erase-image d =
+      let n = length entries in
+      rw (begins-accepted (eraseChecks image (at-hand p) index n) refl false (at-hand p) (withErased (at-hand p) index n) (inl d))
+
+  erase-page : erase image (at-hand p) index (length entries) .answer ≡ Done → erase image (at-hand p) index (length entries) .page ≡ withErased (at-hand p) index (length entries)
+  unfolding erase
+  erase-page d = let n = length entries in done-page (eraseChecks image (at-hand p) index n) refl false (at-hand p) (withErased (at-hand p) index n) d
+
+erased-known : {image : List ℕ} {page : ThinPage} {items : List Item} → Known image page items → (index : ℕ) (entries : List (List ℕ))
+    → List·Memᴰ (item index entries) items → erase image page index (length entries) .answer ≡ Done
+    → Known (eraseImage image page index (length entries)) (erase image page index (length entries) .page) (withoutItem index items)
+unfolding erasePlan
+erased-known {image} {items = items} (held h) index entries m d =
+    subst
+    (λ (page : ThinPage). erase image page index (length entries) .answer ≡ Done
+    → Known (eraseImage image page index (length entries)) (erase image page index (length entries) .page) (withoutItem index items))
+    (sym (h .page-is))
+    (λ d.
+    let p = h .standing in
+    let split = member-split m in
+    let stands = erased-standing p index entries (split .0) (split .1) (split .2) in
+    rw (erase-image p index entries d, erase-page p index entries d)
+    (held
+    (record {
+      standing = stands;
+      opens =
+          opens-split (p .header) _ (run-erase p index entries (split .0) (split .1) (split .2)) (p .header-size) (header-opens-here p (h .opens));
+      page-is =
+          with-erased p index entries (split .0) (split .1) (split .2)
+          ∙ rw (
+            erased-header p index entries (split .0) (split .1) (split .2),
+            erased-map p index entries (split .0) (split .1) (split .2),
+            erased-front p index entries (split .0) (split .1) (split .2),
+          );
+    })))
+    d
+erased-known (blank i p e) index entries m d = absurd (List·Memᴰ·not-nil (subst (List·Memᴰ (item index entries)) e m))
+
+pub known : {image : List ℕ} {page : ThinPage} {items : List Item} → History image page items → Known image page items
+known (opened {image} sector d) = opened-known image sector d
+known (written write n h d) = written-known (known h) write n d
+known (erased index entries h m d) = erased-known (known h) index entries m d
+
+-- ---- the demand
+
+pub held-opening : {image : List ℕ} {page : ThinPage} {items : List Item} → Held image page items → opening image ≡ answered Done page
+unfolding opening
+held-opening {image} h =
+    rw (eq-eqb (length image) 4096 (standing-size (h .standing)), opens-of image (h .opens))
+    (ap (answered Done) (standing-page (h .standing) ∙ sym (h .page-is)))
+
+pub held-image : {image : List ℕ} {page : ThinPage} {items : List Item} → Held image page items → openingImage image ≡ image
+unfolding openingImage run
+held-image {image} h = rw (eq-eqb (length image) 4096 (standing-size (h .standing)), opens-of image (h .opens), standing-plan (h .standing))
+
+abbrev erased-page : List ℕ
+erased-page = replicate 4096 0xFF
+
+blank-verdict : headerVerdictOf erased-page ≡ Blank
+unfolding headerVerdictOf stateOfWord
+blank-verdict = rw (all-ones-replicate 4096)
+
+pub blank-opening : opening erased-page ≡ answered Done uninitialized
+unfolding opening
+blank-opening = rw blank-verdict
+
+blank-image : openingImage erased-page ≡ erased-page
+unfolding openingImage run
+blank-image = rw blank-verdict
+
+pub finds-what-was-put : FindsWhatWasPut
+finds-what-was-put image page items h = by-known (known h)
+  where
+    by-known : Known image page items → (keptItems image ≡ items) × (opening image ≡ answered Done page) × (openingImage image ≡ image)
+    by-known (held h) = (standing-kept (h .standing), held-opening h, held-image h)
+    by-known (blank i p e) = (ap keptItems i ∙ blank-kept ∙ sym e, ap opening i ∙ blank-opening ∙ ap (answered Done) (sym p), ap openingImage i ∙ blank-image ∙ sym i)
+
+pub absent-or-whole : AbsentOrWhole
+absent-or-whole image page items h write n b = by-known (known h) b
+  where
+    by-known : Known image page items → Begins write image page n
+        → (opening (imageOf write image page n) .answer ≡ Done)
+        × (keptItems (imageOf write image page n) ≡ cond (leb n (length (entryUnits write page))) items (items ++ (newItem write page ∷ [])))
+    by-known (held h) b =
+        subst
+        (λ (at-hand : ThinPage). Begins write image at-hand n
+        → (opening (imageOf write image at-hand n) .answer ≡ Done)
+        × (keptItems (imageOf write image at-hand n) ≡ cond (leb n (length (entryUnits write at-hand))) items (items ++ (newItem write at-hand ∷ []))))
+        (sym (h .page-is))
+        (λ b. let s = started (h .standing) write n b in (cut-opens (h .standing) (h .opens) s, cut-kept (h .standing) (h .opens) s))
+        b
+    by-known (blank i p e) b = absurd (blank-refuses write image n (subst (λ (at-hand : ThinPage). Begins write image at-hand n) p b))
+
+-- ---- bits and other entries
+
+module _ {image : List ℕ} {items : List Item} (p : Standing image items) {write : Write} {n : ℕ} (s : Started p write n) where
+  abbrev start : ℕ
+  start = length (p .front)
+
+  abbrev span : ℕ
+  span = suc (length (s .new))
+
+  -- the units of a write lie in its own entries, the map and the state word
+  outside : (i : ℕ) → (i < start) ⊎ (start + span ≤ i) → Outside (entryAddress i) (entryAddress i + 32) (itemPlan (entryUnits write (at-hand p)) start span (p .map))
+  unfolding itemPlan
+  outside i away =
+      outside-append (by-side away)
+      (outside-append
+      (outside-within (entryAddress i) (entryAddress i + 32) (inl (omega arith)) (within-mapUnits start span _ (omega arith) (omega (arith, s .lays .room, p .sum))))
+      (outside-within (entryAddress i) (entryAddress i + 32) (inl (omega arith)) (within-full (start + span))))
+    where
+      by-side : (i < start) ⊎ (start + span ≤ i) → Outside (entryAddress i) (entryAddress i + 32) (entryUnits write (at-hand p))
+      by-side (inl h) = outside-within (entryAddress i) (entryAddress i + 32) (inr (omega arith)) (s .lays .within)
+      by-side (inr h) = outside-within (entryAddress i) (entryAddress i + 32) (inl (omega arith)) (s .lays .within)
+
+  write-entries : (i : ℕ) → (i < nextFree (at-hand p)) ⊎ (nextFree (at-hand p) + length (entriesOfWrite write) ≤ i)
+      → entryAt (imageOf write image (at-hand p) n) i ≡ entryAt image i
+  write-entries i away =
+      ap (λ (after : List ℕ). entryAt after i) (s .image-is)
+      ∙ take-drop-run (entryAddress i) 32 image (outside-take n (outside i (here away)))
+    where
+      here : (i < nextFree (at-hand p)) ⊎ (nextFree (at-hand p) + length (entriesOfWrite write) ≤ i) → (i < start) ⊎ (start + span ≤ i)
+      here (inl h) = inl (omega (arith, next-is p))
+      here (inr h) = inr (omega (arith, next-is p, ap length (s .entries-is)))
+
+abbrev Unaltered : Write → ℕ → List ℕ → ThinPage → Type 0
+Unaltered write n image page =
+    SetsNoBit image (imageOf write image page n)
+    × ((i : ℕ) → i < 126 → (i < nextFree page) ⊎ (nextFree page + length (entriesOfWrite write) ≤ i) → entryAt (imageOf write image page n) i ≡ entryAt image i)
+
+pub alters-no-other-entry : AltersNoOtherEntry
+alters-no-other-entry image page items h write n b = by-known (known h) b
+  where
+    by-known : Known image page items → Begins write image page n → Unaltered write n image page
+    by-known (held h) b =
+        subst (λ (page : ThinPage). Begins write image page n → Unaltered write n image page) (sym (h .page-is))
+        (λ b. let s = started (h .standing) write n b in (only-clears-bits (putting (asked write)) image (at-hand (h .standing)) n, λ i l away. write-entries (h .standing) s i away))
+        b
+    by-known (blank i p e) b = absurd (blank-refuses write image n (subst (λ (page : ThinPage). Begins write image page n) p b))
+
+abbrev MarksAlone : ℕ → List (List ℕ) → List ℕ → ThinPage → Type 0
+MarksAlone index entries image page =
+    SetsNoBit image (eraseImage image page index (length entries))
+    × ((i : ℕ) → i < 126 → entryAt (eraseImage image page index (length entries)) i ≡ entryAt image i)
+
+marks-alone : {image : List ℕ} {items : List Item} (p : Standing image items) (index : ℕ) (entries : List (List ℕ)) → List·Memᴰ (item index entries) items
+    → erase image (at-hand p) index (length entries) .answer ≡ Done → MarksAlone index entries image (at-hand p)
+unfolding erasePlan
+marks-alone {image} p index entries m d =
+    let split = member-split m in
+    let n = length entries in
+    let plan = erasePlan (at-hand p) index n in
+    let one = some p index entries (split .0) (split .1) (split .2) in
+    let inside = fits p index entries (split .0) (split .1) (split .2) in (
+      only-clears-bits (erasing index n) image (at-hand p) 0,
+      λ i l.
+          ap (λ (after : List ℕ). entryAt after i) (erase-image p index entries d)
+          ∙ take-drop-run (entryAddress i) 32 image
+          (outside-within (entryAddress i) (entryAddress i + 32) (inl (omega arith)) (within-mapUnits index n _ one (omega (arith, inside, p .sum)))),
+    )
+
+pub erases-marks-alone : ErasesMarksAlone
+erases-marks-alone image page items h index entries m d = by-known (known h) d
+  where
+    by-known : Known image page items → erase image page index (length entries) .answer ≡ Done → MarksAlone index entries image page
+    by-known (held h) d =
+        subst (λ (page : ThinPage). erase image page index (length entries) .answer ≡ Done → MarksAlone index entries image page) (sym (h .page-is))
+        (λ d. marks-alone (h .standing) index entries m d)
+        d
+    by-known (blank i p e) d = absurd (List·Memᴰ·not-nil (subst (List·Memᴰ (item index entries)) e m))

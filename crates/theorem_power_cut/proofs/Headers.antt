@@ -1,0 +1,177 @@
+-- Headers that open, and the state word Full on them.
+--
+-- In order: what of a header decides whether its page opens; the state word; a header with Full programmed, or not.
+-- Assumes nothing.
+use mathlib.Core.Path.{_≡_, refl, sym, ap, _∙_, subst}
+use mathlib.Core.Bool.{Bool, true, false, _&&_, not, cond}
+use mathlib.Core.List.{List, [], _∷_, _++_}
+use Prim.Native.Nat.{ℕ, zero, suc, _≤_}
+use native.Mathlib.Omega.{arith}
+use lib.Dec.{eqb}
+use lib.ListN.{length, take, drop, getD, take-append-drop}
+use lib.Seq.{getD-take, getD-drop, take-at, drop-drop}
+use borrow.Author.Tests.{eqb-true}
+use Rattle.crc.specs.Crc.{crc32}
+use Rattle.flash.specs.Flash.{units, run, program, allOnes}
+use Rattle.flash.proofs.Laws.{Bytes, bytes-nil, bytes-cons}
+use Rattle.page.specs.Record.{isUninitialized}
+use Rattle.page.specs.Writing.{fullUnits}
+use Rattle.sector.specs.declared.PageState.the-variants.{Uninitialized, Active, Full, Freeing, Corrupt, Invalid}
+use Rattle.sector.specs.Header.{stateOfWord, headerCrc, stateBytes}
+use Rattle.sector.specs.Item.{crcStart}
+use Rattle.sector.specs.Layout.{number, stateWord, versionOf, storedHeaderCrc}
+use Rattle.opening.specs.Opening.{isOpenState, headerVerdictOf}
+use Rattle.opening.specs.declared.HeaderVerdict.the-variants.{Blank, Opens, WrongPageState, WrongVersion, WrongHeaderCrc}
+use Rattle.theorem_writing.proofs.FitRecords.{known-state}
+use Rattle.theorem_power_cut.proofs.AtHand.{field-front}
+
+-- ---- what decides
+
+-- state, version and CRC of a header
+pub record HeaderOpens (header : List ℕ) : Type 0 where
+  pub state : isOpenState (stateOfWord (stateWord header)) ≡ true
+  pub version : eqb (versionOf header) 0xFE ≡ true
+  pub crc : eqb (headerCrc header) (storedHeaderCrc header) ≡ true
+
+by-verdict : (blank state version crc : Bool)
+    → cond blank Blank (cond (not state) WrongPageState (cond (not version) WrongVersion (cond (not crc) WrongHeaderCrc Opens))) ≡ Opens
+    → (state ≡ true) × (version ≡ true) × (crc ≡ true)
+by-verdict true state version crc e = let z : _≡_ {A = ℕ} 0 1 = cc in absurd (omega arith)
+by-verdict false false version crc e = let z : _≡_ {A = ℕ} 0 1 = cc in absurd (omega arith)
+by-verdict false true false crc e = let z : _≡_ {A = ℕ} 0 1 = cc in absurd (omega arith)
+by-verdict false true true false e = let z : _≡_ {A = ℕ} 0 1 = cc in absurd (omega arith)
+by-verdict false true true true e = (refl, refl, refl)
+
+pub opens-facts : (image : List ℕ) → headerVerdictOf image ≡ Opens → HeaderOpens image
+unfolding headerVerdictOf
+opens-facts image e =
+    let facts = by-verdict (isUninitialized (stateOfWord (stateWord image)) && allOnes image) (isOpenState (stateOfWord (stateWord image))) (eqb (versionOf image) 0xFE) (eqb (headerCrc image) (storedHeaderCrc image)) e in
+    record { state = facts .0; version = facts .1; crc = facts .2 }
+
+pub opens-of : (image : List ℕ) → HeaderOpens image → headerVerdictOf image ≡ Opens
+unfolding headerVerdictOf
+opens-of image o = rw (known-state isOpenState refl (stateOfWord (stateWord image)) (o .state), o .state, o .version, o .crc)
+
+-- the header alone decides
+module _ (header rest : List ℕ) (size : length header ≡ 32) where
+  word-front : stateWord (header ++ rest) ≡ stateWord header
+  word-front = ap number (field-front 0 4 header rest (omega arith))
+
+  version-front : versionOf (header ++ rest) ≡ versionOf header
+  version-front =
+      sym (getD-take 32 (header ++ rest) 8 0 (omega arith)) ∙ ap (λ (bytes : List ℕ). getD bytes 8 0) (take-at header rest 32 size)
+
+  crc-front : headerCrc (header ++ rest) ≡ headerCrc header
+  unfolding headerCrc
+  crc-front = ap (crc32 crcStart) (field-front 4 24 header rest (omega arith))
+
+  stored-front : storedHeaderCrc (header ++ rest) ≡ storedHeaderCrc header
+  stored-front = ap number (field-front 28 4 header rest (omega arith))
+
+  pub header-opens : HeaderOpens (header ++ rest) → HeaderOpens header
+  header-opens o =
+      record {
+        state = rw word-front at (o .state);
+        version = rw version-front at (o .version);
+        crc = rw (crc-front, stored-front) at (o .crc);
+      }
+
+  pub image-opens : HeaderOpens header → HeaderOpens (header ++ rest)
+  image-opens o = record { state = rw word-front (o .state); version = rw version-front (o .version); crc = rw (crc-front, stored-front) (o .crc) }
+
+-- ---- the state word
+
+among-active : (word : ℕ) → stateOfWord word ≡ Active → word ≡ 0xFFFFFFFE
+unfolding stateOfWord
+among-active word e =
+    by-tests (eqb word 0xFFFFFFFF) (eqb word 0xFFFFFFFE) refl (eqb word 0xFFFFFFFC) (eqb word 0xFFFFFFF8) (eqb word 0) e
+  where
+    by-tests : (a b : Bool) → eqb word 0xFFFFFFFE ≡ b → (c d f : Bool)
+        → cond a Uninitialized (cond b Active (cond c Full (cond d Freeing (cond f Invalid Corrupt)))) ≡ Active → word ≡ 0xFFFFFFFE
+    by-tests true b h c d f e = let z : _≡_ {A = ℕ} 0 1 = cc in absurd (omega arith)
+    by-tests false true h c d f e = eqb-true word 0xFFFFFFFE h
+    by-tests false false h true d f e = let z : _≡_ {A = ℕ} 0 1 = cc in absurd (omega arith)
+    by-tests false false h false true f e = let z : _≡_ {A = ℕ} 0 1 = cc in absurd (omega arith)
+    by-tests false false h false false true e = let z : _≡_ {A = ℕ} 0 1 = cc in absurd (omega arith)
+    by-tests false false h false false false e = let z : _≡_ {A = ℕ} 0 1 = cc in absurd (omega arith)
+
+-- the bytes of a number are its own
+word-bytes : {header : List ℕ} → Bytes header → 4 ≤ length header → number (take 4 header) ≡ 0xFFFFFFFE → take 4 header ≡ stateBytes Active
+word-bytes bytes-nil h e = absurd (omega arith)
+word-bytes (bytes-cons ha bytes-nil) h e = absurd (omega arith)
+word-bytes (bytes-cons ha (bytes-cons hb bytes-nil)) h e = absurd (omega arith)
+word-bytes (bytes-cons ha (bytes-cons hb (bytes-cons hc bytes-nil))) h e = absurd (omega arith)
+word-bytes (bytes-cons {byte = a} ha (bytes-cons {byte = b} hb (bytes-cons {byte = c} hc (bytes-cons {byte = d} hd rest)))) h e =
+    let ea : a ≡ 0xFE = omega arith in
+    let eb : b ≡ 0xFF = omega arith in
+    let ec : c ≡ 0xFF = omega arith in
+    let ed : d ≡ 0xFF = omega arith in
+    rw (ea, eb, ec, ed)
+
+pub active-word : {header : List ℕ} → Bytes header → length header ≡ 32 → stateOfWord (stateWord header) ≡ Active → take 4 header ≡ stateBytes Active
+active-word {header} bytes size e = word-bytes bytes (omega arith) (among-active (stateWord header) e)
+
+-- ---- Full, programmed or not
+
+-- an Active header is the state word and what is behind it
+header-split : (header : List ℕ) → take 4 header ≡ stateBytes Active → header ≡ stateBytes Active ++ drop 4 header
+header-split header e = sym (take-append-drop 4 header) ∙ ap (λ (word : List ℕ). word ++ drop 4 header) e
+
+full-programmed : (header : List ℕ) → take 4 header ≡ stateBytes Active → program header 0 (stateBytes Full) ≡ stateBytes Full ++ drop 4 header
+unfolding program
+full-programmed header e = ap (λ (bytes : List ℕ). program bytes 0 (stateBytes Full)) (header-split header e) ∙ program-nothing (drop 4 header)
+  where
+    program-nothing : (rest : List ℕ) → program (stateBytes Active ++ rest) 0 (stateBytes Full) ≡ stateBytes Full ++ rest
+    program-nothing [] = refl
+    program-nothing (x ∷ rest) = refl
+
+-- what the state unit leaves: the header as it was, or Full
+pub data FullOrNot (header after : List ℕ) : Type 0 where
+  not-full : after ≡ header → FullOrNot header after
+  is-full : after ≡ stateBytes Full ++ drop 4 header → FullOrNot header after
+
+pub full-cut : {header : List ℕ} (q end : ℕ) → take 4 header ≡ stateBytes Active → FullOrNot header (run (take q (fullUnits end)) header)
+unfolding run units allOnes
+full-cut {header} q end e = by-test (eqb end 126) q
+  where
+    by-test : (last : Bool) (q : ℕ) → FullOrNot header (run (take q (cond last (units 0 (stateBytes Full)) [])) header)
+    by-test true zero = not-full refl
+    by-test true (suc zero) = is-full (full-programmed header e)
+    by-test true (suc (suc q)) = is-full (full-programmed header e)
+    by-test false zero = not-full refl
+    by-test false (suc q) = not-full refl
+
+pub full-whole : {header : List ℕ} (end : ℕ) → take 4 header ≡ stateBytes Active → FullOrNot header (run (fullUnits end) header)
+unfolding run units allOnes
+full-whole {header} end e = by-test (eqb end 126)
+  where
+    by-test : (last : Bool) → FullOrNot header (run (cond last (units 0 (stateBytes Full)) []) header)
+    by-test true = is-full (full-programmed header e)
+    by-test false = not-full refl
+
+pub full-drop : {header after : List ℕ} → FullOrNot header after → drop 4 after ≡ drop 4 header
+full-drop (not-full e) = ap (drop 4) e
+full-drop (is-full e) = ap (drop 4) e
+
+-- a header that opens still opens
+pub full-opens : {header after : List ℕ} → HeaderOpens header → FullOrNot header after → HeaderOpens after
+unfolding stateOfWord headerCrc
+full-opens o (not-full e) = subst HeaderOpens (sym e) o
+full-opens {header} {after} o (is-full e) =
+    subst HeaderOpens (sym e)
+    (record {
+      state = refl;
+      version = ap (λ (v : ℕ). eqb v 0xFE) (getD-drop 4 header 4 0) ∙ o .version;
+      crc = ap (λ (stored : List ℕ). eqb (crc32 crcStart (take 24 (drop 4 header))) (number (take 4 stored))) (drop-drop 24 4 header) ∙ o .crc;
+    })
+
+-- the state of a header that Full was programmed on, where no entry is free
+pub full-state : (header : List ℕ) (end : ℕ) → take 4 header ≡ stateBytes Active
+    → cond (eqb end 126) Full (stateOfWord (stateWord header)) ≡ stateOfWord (stateWord (run (fullUnits end) header))
+unfolding stateOfWord run units allOnes
+full-state header end e = by-test (eqb end 126)
+  where
+    by-test : (last : Bool)
+        → cond last Full (stateOfWord (stateWord header)) ≡ stateOfWord (stateWord (run (cond last (units 0 (stateBytes Full)) []) header))
+    by-test true = ap (λ (after : List ℕ). stateOfWord (stateWord after)) (sym (full-programmed header e))
+    by-test false = refl

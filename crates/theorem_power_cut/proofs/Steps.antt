@@ -1,0 +1,136 @@
+-- One more append or copy on a page that is held: done, the page is held again; cut, it opens.
+--
+-- In order: an erased page refuses; the header of a cut write; a write cut after n units; a write that is done.
+-- Assumes nothing.
+use mathlib.Core.Path.{_≡_, refl, sym, ap, ap₂, _∙_, subst}
+use mathlib.Core.Bool.{Bool, true, false, cond}
+use mathlib.Core.List.{List, [], _∷_, _++_}
+use Prim.Native.Nat.{ℕ, suc, _+_, _-_, _*_, _≤_, _<_}
+use native.Mathlib.Decide.{decLe}
+use native.Mathlib.Omega.{arith}
+use lib.Dec.{leb}
+use lib.ListN.{length, take, drop, replicate}
+use lib.Seq.{take-at}
+use borrow.Author.Tests.{eq-eqb, le-leb, lt-leb}
+use Rattle.flash.specs.Flash.{Unit4, run}
+use Rattle.flash.proofs.Laws.{Bytes, bytes-take, length-run}
+use Rattle.page.specs.Record.{uninitialized}
+use Rattle.page.specs.Writing.{badImage, badRecord, fullUnits, stops}
+use Rattle.sector.specs.declared.Answer.the-variants.{Done}
+use Rattle.sector.specs.declared.PageState.the-variants.{Active}
+use Rattle.sector.specs.Header.{stateBytes}
+use Rattle.call_append.specs.Append.{singleChecks, singlePlan, withSingle, appendSingle, variableChecks, variablePlan, withVariable, appendVariable}
+use Rattle.call_copy.specs.Copy.{copyChecks, copyPlan, withCopy, copyIn}
+use Rattle.opening_reading.specs.Reading.{Item, item}
+use Rattle.opening.specs.Opening.{keptItems, opening}
+use Rattle.theorem_power_cut.specs.History.{Write, a-single, a-variable, a-copy, outcomeOf, imageOf, entryUnits, newItem}
+use Rattle.theorem_power_cut.specs.PowerCut.{Begins}
+use Rattle.theorem_power_cut.proofs.Standing.{Standing, standing-size, front-bytes}
+use Rattle.theorem_power_cut.proofs.Begun.{marks, plan, headerAt, restAt, image-before, image-after, headerAt-size, kept-before, kept-after, header-after, run-plan, standing-after, after-header, after-map, after-front}
+use Rattle.theorem_power_cut.proofs.AtHand.{with-item}
+use Rattle.theorem_power_cut.proofs.Headers.{HeaderOpens, opens-of, header-opens, image-opens, active-word, full-cut, full-whole, full-drop, full-opens, full-state}
+use Rattle.theorem_power_cut.proofs.Accepted.{begins-accepted}
+use Rattle.theorem_power_cut.proofs.Started.{page, start, counted, next-is, Started}
+use Rattle.theorem_power_cut.proofs.Held.{Held}
+
+-- ---- an erased page
+
+never : (a b : Bool) → cond a false (cond b false false) ≡ true → ⊥
+never true b e = let z : _≡_ {A = ℕ} 0 1 = cc in omega arith
+never false true e = let z : _≡_ {A = ℕ} 0 1 = cc in omega arith
+never false false e = let z : _≡_ {A = ℕ} 0 1 = cc in omega arith
+
+pub blank-refuses : (write : Write) (image : List ℕ) (n : ℕ) → Begins write image uninitialized n → ⊥
+unfolding appendSingle appendVariable copyIn
+blank-refuses (a-single request asked) image n b =
+    never (badImage image .0) (badRecord uninitialized .0)
+    (begins-accepted (singleChecks image uninitialized request) refl (stops n (singlePlan uninitialized request)) uninitialized (withSingle uninitialized request) b)
+blank-refuses (a-variable request payload asked) image n b =
+    never (badImage image .0) (badRecord uninitialized .0)
+    (begins-accepted (variableChecks image uninitialized request payload) refl (stops n (variablePlan uninitialized request payload)) uninitialized (withVariable uninitialized request payload) b)
+blank-refuses (a-copy source index entries kept) image n b =
+    let checks = copyChecks image uninitialized source index in
+    let ok = begins-accepted checks refl (stops n (copyPlan uninitialized source index)) uninitialized (withCopy uninitialized source index) b in
+    past (badImage image .0) ok
+  where
+    past : (a : Bool) → cond a false (cond (badImage source .0) false (cond (badRecord uninitialized .0) false false)) ≡ true → ⊥
+    past true e = let z : _≡_ {A = ℕ} 0 1 = cc in omega arith
+    past false e = never (badImage source .0) (badRecord uninitialized .0) e
+
+-- ---- the header of a write
+
+pub opens-split : {image : List ℕ} (header rest : List ℕ) → image ≡ header ++ rest → length header ≡ 32 → HeaderOpens header → HeaderOpens image
+opens-split header rest e size o = subst HeaderOpens (sym e) (image-opens header rest size o)
+
+module _ {image : List ℕ} {items : List Item} (p : Standing image items) (opens : HeaderOpens image) where
+  pub header-opens-here : HeaderOpens (p .header)
+  header-opens-here = header-opens (p .header) (p .map ++ (p .used ++ replicate (32 * p .spare) 0xFF)) (p .header-size) (subst HeaderOpens (p .split) opens)
+
+  header-bytes : Bytes (p .header)
+  header-bytes = subst Bytes header-is (bytes-take 32 (p .bytes))
+    where
+      header-is : take 32 image ≡ p .header
+      header-is = ap (take 32) (p .split) ∙ take-at (p .header) (p .map ++ (p .used ++ replicate (32 * p .spare) 0xFF)) 32 (p .header-size)
+
+  module _ {write : Write} {n : ℕ} (s : Started p write n) where
+    word : take 4 (p .header) ≡ stateBytes Active
+    word = active-word header-bytes (p .header-size) (s .active)
+
+    abbrev us : List Unit4
+    us = entryUnits write (page p)
+
+    -- ---- cut after n units
+
+    opens-cut : HeaderOpens (run (take n (plan p (s .lays))) image)
+    opens-cut = by-order (decLe n (length us))
+      where
+        by-order : Dec (n ≤ length us) → HeaderOpens (run (take n (plan p (s .lays))) image)
+        by-order (yes h) =
+            let rest = drop (length (front-bytes p)) (run (take n us) (front-bytes p ++ replicate (32 * p .spare) 0xFF)) in
+            opens-split (p .header) (p .map ++ (p .used ++ rest)) (image-before p (s .lays) n h) (p .header-size) header-opens-here
+        by-order (no h) =
+            let more : length us < n = omega arith in
+            let q = n - length us - length (marks p (s .lays)) in
+            opens-split (headerAt p (s .lays) n) (restAt p (s .lays) n) (image-after p (s .lays) n more) (headerAt-size p (s .lays) n)
+            (full-opens header-opens-here (full-cut q (start p + suc (length (s .new))) word))
+
+    -- the new item, at its index
+    new-is : newItem write (page p) ≡ item (start p) (s .entry ∷ s .new)
+    new-is = ap₂ item (next-is p) (s .entries-is)
+
+    pub cut-opens : opening (imageOf write image (page p) n) .answer ≡ Done
+    unfolding opening
+    cut-opens =
+        let cut = run (take n (plan p (s .lays))) image in
+        let size : length cut ≡ 4096 = length-run (take n (plan p (s .lays))) image ∙ standing-size p in
+        rw (s .image-is, eq-eqb (length cut) 4096 size, opens-of cut opens-cut)
+
+    pub cut-kept : keptItems (imageOf write image (page p) n) ≡ cond (leb n (length us)) items (items ++ (newItem write (page p) ∷ []))
+    cut-kept = ap keptItems (s .image-is) ∙ by-order (decLe n (length us))
+      where
+        by-order : Dec (n ≤ length us) → keptItems (run (take n (plan p (s .lays))) image) ≡ cond (leb n (length us)) items (items ++ (newItem write (page p) ∷ []))
+        by-order (yes h) = rw (le-leb n (length us) h) (kept-before p (s .lays) n h)
+        by-order (no h) =
+            let more : length us < n = omega arith in
+            rw (lt-leb n (length us) more) (kept-after p (s .lays) n more ∙ ap (λ (new : Item). items ++ (new ∷ [])) (sym new-is))
+
+    -- ---- done
+
+    pub done-held : outcomeOf write image (page p) n .answer ≡ Done
+        → Held (imageOf write image (page p) n) (outcomeOf write image (page p) n .page) (items ++ (newItem write (page p) ∷ []))
+    done-held d =
+        let span = suc (length (s .new)) in
+        let after = standing-after p (s .lays) in
+        let end = start p + span in
+        let full = full-whole end word in
+        rw (s .done d .0, s .done d .1, new-is)
+        (record {
+          standing = after;
+          opens =
+              opens-split (header-after p (s .lays)) _ (run-plan p (s .lays)) (length-run (fullUnits end) (p .header) ∙ p .header-size)
+              (full-opens header-opens-here full);
+          page-is =
+              with-item (p .header) (header-after p (s .lays)) (p .map) (p .front) items (s .entry) (s .new) span (counted (p .closed))
+              (full-state (p .header) end word) (full-drop full) (s .short)
+              ∙ rw (after-header p (s .lays), after-map p (s .lays), after-front p (s .lays));
+        })
