@@ -21,39 +21,6 @@ Inv-loop bytes entries₀ k₀ entries k = (k ≤ 126) × (length entries ≡ 12
 abbrev μ-loop : tie.MeasureT-loop
 μ-loop bytes entries₀ k₀ entries k = 126 - k
 
-loop-holds : tie.Need-loop-holds Inv-loop μ-loop
-loop-holds c = search needs
-
-mul-start : tie.Need-mul-start Inv-loop μ-loop
-mul-start c = search needs
-
-add-end : tie.Need-add-end Inv-loop μ-loop
-add-end c = search needs
-
-sub-array-32 : tie.Need-sub-array-32 Inv-loop μ-loop
-sub-array-32 c = search needs
-
-part-array-32-start : tie.Need-part-array-32-start Inv-loop μ-loop
-part-array-32-start c = search needs
-
-part-array-32-end : tie.Need-part-array-32-end Inv-loop μ-loop
-part-array-32-end c = search needs
-
-array-32-requires : tie.Need-array-32-requires Inv-loop μ-loop
-array-32-requires c κs = search needs
-
-mul-entries : tie.Need-mul-entries Inv-loop μ-loop
-mul-entries c = search needs
-
-array-set-from-entries : tie.Need-array-set-from-entries Inv-loop μ-loop
-array-set-from-entries c = search needs
-
-add-k : tie.Need-add-k Inv-loop μ-loop
-add-k c = search needs
-
-loop-less : tie.Need-loop-less Inv-loop μ-loop
-loop-less c = search needs
-
 loop-again : tie.Need-loop-again Inv-loop μ-loop
 loop-again c =
     let part = c .before .before in
@@ -75,16 +42,16 @@ entries-of-spec =
     (tie.spec
     Inv-loop
     μ-loop
-    loop-holds
-    mul-start
-    add-end
-    sub-array-32
-    part-array-32-start
-    part-array-32-end
-    array-32-requires
-    mul-entries
-    array-set-from-entries
-    add-k
-    loop-less
+    (λ c. search needs)
+    (λ c. search needs)
+    (λ c. search needs)
+    (λ c. search needs)
+    (λ c. search needs)
+    (λ c. search needs)
+    (λ c κs. search needs)
+    (λ c. search needs)
+    (λ c. search needs)
+    (λ c. search needs)
+    (λ c. search needs)
     loop-again
     returns)

@@ -17,30 +17,6 @@ Inv-loop bytes list₀ k₀ list k = (k ≤ 126) × (length list ≡ 126) × (ta
 abbrev μ-loop : tie.MeasureT-loop
 μ-loop bytes list₀ k₀ list k = 126 - k
 
-loop-holds : tie.Need-loop-holds Inv-loop μ-loop
-loop-holds c = search needs
-
-mul-place-at : tie.Need-mul-place-at Inv-loop μ-loop
-mul-place-at c = search needs
-
-add-place-at : tie.Need-add-place-at Inv-loop μ-loop
-add-place-at c = search needs
-
-place-at-requires : tie.Need-place-at-requires Inv-loop μ-loop
-place-at-requires c κs = search needs
-
-mul-list : tie.Need-mul-list Inv-loop μ-loop
-mul-list c = search needs
-
-array-set-from-list : tie.Need-array-set-from-list Inv-loop μ-loop
-array-set-from-list c = search needs
-
-add-k : tie.Need-add-k Inv-loop μ-loop
-add-k c = search needs
-
-loop-less : tie.Need-loop-less Inv-loop μ-loop
-loop-less c = search needs
-
 loop-again : tie.Need-loop-again Inv-loop μ-loop
 loop-again c =
     let at = c .before .before .loop in
@@ -62,13 +38,13 @@ places-of-spec =
     (tie.spec
     Inv-loop
     μ-loop
-    loop-holds
-    mul-place-at
-    add-place-at
-    place-at-requires
-    mul-list
-    array-set-from-list
-    add-k
-    loop-less
+    (λ c. search needs)
+    (λ c. search needs)
+    (λ c. search needs)
+    (λ c κs. search needs)
+    (λ c. search needs)
+    (λ c. search needs)
+    (λ c. search needs)
+    (λ c. search needs)
     loop-again
     returns)

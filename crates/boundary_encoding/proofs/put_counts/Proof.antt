@@ -7,45 +7,6 @@ use Rattle.boundary_encoding.proofs.Laws.{words-laid}
 use Rattle.boundary_encoding.proofs.put_counts.Statement.{statement}
 use Rattle.boundary_encoding.proofs.put_counts.Tie as tie
 
-little-endian-requires : tie.Need-little-endian-requires
-little-endian-requires c κs = search needs
-
-slice-aggregate-put : tie.Need-slice-aggregate-put
-slice-aggregate-put c = search needs
-
-put-requires : tie.Need-put-requires
-put-requires c κs = search needs
-
-little-endian-requires-2 : tie.Need-little-endian-requires-2
-little-endian-requires-2 c κs = search needs
-
-slice-aggregate-put-2 : tie.Need-slice-aggregate-put-2
-slice-aggregate-put-2 c = search needs
-
-put-requires-2 : tie.Need-put-requires-2
-put-requires-2 c κs = search needs
-
-little-endian-requires-3 : tie.Need-little-endian-requires-3
-little-endian-requires-3 c κs = search needs
-
-slice-aggregate-put-3 : tie.Need-slice-aggregate-put-3
-slice-aggregate-put-3 c = search needs
-
-put-requires-3 : tie.Need-put-requires-3
-put-requires-3 c κs = search needs
-
-little-endian-requires-4 : tie.Need-little-endian-requires-4
-little-endian-requires-4 c κs = search needs
-
-slice-aggregate-put-4 : tie.Need-slice-aggregate-put-4
-slice-aggregate-put-4 c = search needs
-
-put-requires-4 : tie.Need-put-requires-4
-put-requires-4 c κs = search needs
-
-same-length : tie.Need-same-length
-same-length c = search needs
-
 returns : tie.Need-returns
 returns c =
     let fourth = c .before .before in
@@ -66,17 +27,17 @@ pub put-counts-spec : {M : Type 1} → statement M
 put-counts-spec =
     tie.close
     (tie.spec
-    little-endian-requires
-    slice-aggregate-put
-    put-requires
-    little-endian-requires-2
-    slice-aggregate-put-2
-    put-requires-2
-    little-endian-requires-3
-    slice-aggregate-put-3
-    put-requires-3
-    little-endian-requires-4
-    slice-aggregate-put-4
-    put-requires-4
-    same-length
+    (λ c κs. search needs)
+    (λ c. search needs)
+    (λ c κs. search needs)
+    (λ c κs. search needs)
+    (λ c. search needs)
+    (λ c κs. search needs)
+    (λ c κs. search needs)
+    (λ c. search needs)
+    (λ c κs. search needs)
+    (λ c κs. search needs)
+    (λ c. search needs)
+    (λ c κs. search needs)
+    (λ c. search needs)
     returns)

@@ -15,34 +15,10 @@ use Rattle.boundary_encoding.proofs.put_record.Tie as tie
 map-long : (c : tie.Start) → length (c .args .page .map) ≡ 32
 map-long c = sym (length-map (c .args .page .map) (λ byte. byte)) ∙ c .good .0 .1 .1 .1 .1 .1 .1 .0 .1 .0 .1
 
-head-bytes-requires : tie.Need-head-bytes-requires
-head-bytes-requires c κs = search needs
-
-slice-aggregate-put : tie.Need-slice-aggregate-put
-slice-aggregate-put c = search needs
-
-put-requires : tie.Need-put-requires
-put-requires c κs = search needs
-
-slice-aggregate-put-2 : tie.Need-slice-aggregate-put-2
-slice-aggregate-put-2 c = search needs
-
 put-requires-2 : tie.Need-put-requires-2
 put-requires-2 c κs =
     let long = map-long (c .before .before .before .before .before .before .before .before .before .before) in
     omega (arith, long, c .before .before .before .before .before .put .kept .0)
-
-slice-aggregate-put-3 : tie.Need-slice-aggregate-put-3
-slice-aggregate-put-3 c = search needs
-
-put-requires-3 : tie.Need-put-requires-3
-put-requires-3 c κs = search needs
-
-put-places-requires : tie.Need-put-places-requires
-put-places-requires c κs = search needs
-
-same-length : tie.Need-same-length
-same-length c = search needs
 
 returns : tie.Need-returns
 unfolding recordBytes
@@ -66,13 +42,13 @@ pub put-record-spec : {M : Type 1} → statement M
 put-record-spec =
     tie.close
     (tie.spec
-    head-bytes-requires
-    slice-aggregate-put
-    put-requires
-    slice-aggregate-put-2
+    (λ c κs. search needs)
+    (λ c. search needs)
+    (λ c κs. search needs)
+    (λ c. search needs)
     put-requires-2
-    slice-aggregate-put-3
-    put-requires-3
-    put-places-requires
-    same-length
+    (λ c. search needs)
+    (λ c κs. search needs)
+    (λ c κs. search needs)
+    (λ c. search needs)
     returns)

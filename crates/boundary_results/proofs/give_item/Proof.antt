@@ -7,24 +7,6 @@ use Rattle.boundary_encoding.specs.Encoding.{answerBytes}
 use Rattle.boundary_results.proofs.give_item.Statement.{statement}
 use Rattle.boundary_results.proofs.give_item.Tie as tie
 
-carried-byte-requires : tie.Need-carried-byte-requires
-carried-byte-requires c κs = search needs
-
-no-counts-requires : tie.Need-no-counts-requires
-no-counts-requires c κs = search needs
-
-put-answer-requires : tie.Need-put-answer-requires
-put-answer-requires c κs = search needs
-
-number-of-requires : tie.Need-number-of-requires
-number-of-requires c κs = search needs
-
-cast-result : tie.Need-cast-result
-cast-result c = search needs
-
-same-length : tie.Need-same-length
-same-length c = search needs
-
 returns : tie.Need-returns
 returns c =
     let put = c .before .before .before in
@@ -40,10 +22,10 @@ pub give-item-spec : {M : Type 1} → statement M
 give-item-spec =
     tie.close
     (tie.spec
-    carried-byte-requires
-    no-counts-requires
-    put-answer-requires
-    number-of-requires
-    cast-result
-    same-length
+    (λ c κs. search needs)
+    (λ c κs. search needs)
+    (λ c κs. search needs)
+    (λ c κs. search needs)
+    (λ c. search needs)
+    (λ c. search needs)
     returns)

@@ -7,24 +7,12 @@ use Rattle.boundary_results.specs.Handing.{recordLeft}
 use Rattle.boundary_results.proofs.hand_back.Statement.{statement}
 use Rattle.boundary_results.proofs.hand_back.Tie as tie
 
-number-of-requires : tie.Need-number-of-requires
-number-of-requires c κs = search needs
-
-cast-result : tie.Need-cast-result
-cast-result c = search needs
-
 returns : tie.Need-returns
 unfolding recordLeft
 returns c =
     let numbered = c .before .number-of .ensures in
     let answer = c .before .before .before .args .outcome .answer in
     (numbered, rw (ne-eqb (numberOf answer) 0 (λ e. c .if1 .taken (numbered ∙ e))))
-
-put-record-requires : tie.Need-put-record-requires
-put-record-requires c κs = search needs
-
-same-length : tie.Need-same-length
-same-length c = search needs
 
 returns-2 : tie.Need-returns-2
 unfolding recordLeft
@@ -38,4 +26,4 @@ returns-2 c =
 pub hand-back-spec : {M : Type 1} → statement M
 hand-back-spec =
     tie.close
-    (tie.spec number-of-requires cast-result returns put-record-requires same-length returns-2)
+    (tie.spec (λ c κs. search needs) (λ c. search needs) returns (λ c κs. search needs) (λ c. search needs) returns-2)

@@ -14,12 +14,6 @@ named : (c : tie.After-is-single) → isSingle (itemType (c .before .before .arg
 unfolding kindOf
 named c = sym (c .is-single .ensures ∙ ap (λ (kind : Kind). isSingle (kind .named)) (c .before .kind-of .ensures))
 
-kind-of-requires : tie.Need-kind-of-requires
-kind-of-requires c κs = search needs
-
-is-single-requires : tie.Need-is-single-requires
-is-single-requires c κs = search needs
-
 returns : tie.Need-returns
 returns c = rw (named (c .before) ∙ not-true (c .before .is-single .result) (c .if1 .taken))
 
@@ -29,4 +23,4 @@ returns-2 c =
     rw (named single ∙ not-false (single .is-single .result) (c .before .if1 .left))
 
 pub is-bad-single-spec : {M : Type 1} → statement M
-is-bad-single-spec = tie.close (tie.spec kind-of-requires is-single-requires returns returns-2)
+is-bad-single-spec = tie.close (tie.spec (λ c κs. search needs) (λ c κs. search needs) returns returns-2)

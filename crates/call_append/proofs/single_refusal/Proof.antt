@@ -26,12 +26,6 @@ passed : (c : tie.Else1) →
     accepted (frontChecks (z .image .now) (z .page)) ≡ true
 passed c = tested (c .before) ∙ not-false (c .before .is-done .result) (c .if1 .left)
 
-append-refusal-requires : tie.Need-append-refusal-requires
-append-refusal-requires c κs = search needs
-
-is-done-requires : tie.Need-is-done-requires
-is-done-requires c κs = search needs
-
 returns : tie.Need-returns
 returns c =
     let z = c .before .before .before .before .args in
@@ -39,18 +33,12 @@ returns c =
     (tested (c .before) ∙ not-true (c .before .is-done .result) (c .if1 .taken))
     (c .before .before .append-refusal .ensures)
 
-is-bad-single-requires : tie.Need-is-bad-single-requires
-is-bad-single-requires c κs = search needs
-
 returns-2 : tie.Need-returns-2
 returns-2 c =
     let else = c .before .before in
     let z = else .before .before .before .before .args in
     refusal-passed (frontChecks (z .image .now) (z .page)) (singleRequest (z .item) ∷ overFree (z .page) 1 ∷ []) (passed else)
     (rw (sym (c .before .is-bad-single .ensures) ∙ c .if2 .taken))
-
-get-free-entry-count-requires : tie.Need-get-free-entry-count-requires
-get-free-entry-count-requires c κs = search needs
 
 returns-3 : tie.Need-returns-3
 returns-3 c =
@@ -72,11 +60,11 @@ pub single-refusal-spec : {M : Type 1} → statement M
 single-refusal-spec =
     tie.close
     (tie.spec
-    append-refusal-requires
-    is-done-requires
+    (λ c κs. search needs)
+    (λ c κs. search needs)
     returns
-    is-bad-single-requires
+    (λ c κs. search needs)
     returns-2
-    get-free-entry-count-requires
+    (λ c κs. search needs)
     returns-3
     returns-4)

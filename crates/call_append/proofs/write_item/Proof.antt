@@ -28,15 +28,6 @@ passed : (c : tie.Else1) →
     accepted (singleChecks (z .image .now) (z .page) (z .item)) ≡ true
 passed c = tested (c .before) ∙ not-false (c .before .is-done .result) (c .if1 .left)
 
-single-refusal-requires : tie.Need-single-refusal-requires
-single-refusal-requires c κs = search needs
-
-is-done-requires : tie.Need-is-done-requires
-is-done-requires c κs = search needs
-
-same-length : tie.Need-same-length
-same-length c = search needs
-
 returns : tie.Need-returns
 unfolding appendSingle appendSingleImage
 returns c =
@@ -61,9 +52,6 @@ write-single-requires c κs =
     let room = single-room (z .image .now) (z .page) (z .item) (passed (new .before)) in
     (room .whole, room .room, ap (λ (page : ThinPage). page .map) (new .with-single .ensures))
 
-same-length-2 : tie.Need-same-length-2
-same-length-2 c = search needs
-
 returns-2 : tie.Need-returns-2
 unfolding appendSingle appendSingleImage
 returns-2 c =
@@ -73,9 +61,6 @@ returns-2 c =
     call-stopped (singleChecks (z .image .now) (z .page) (z .item)) (z .page) (withSingle (z .page) (z .item)) (z .image .now)
     (z .stop) (singlePlan (z .page) (z .item)) (passed else)
     (written .write-single .ensures .0) (c .if2 .taken) (written .write-single .ensures .1)
-
-same-length-3 : tie.Need-same-length-3
-same-length-3 c = search needs
 
 returns-3 : tie.Need-returns-3
 unfolding appendSingle appendSingleImage
@@ -91,13 +76,13 @@ pub write-item-spec : {M : Type 1} → statement M
 write-item-spec =
     tie.close
     (tie.spec
-    single-refusal-requires
-    is-done-requires
-    same-length
+    (λ c κs. search needs)
+    (λ c κs. search needs)
+    (λ c. search needs)
     returns
     with-single-requires
     write-single-requires
-    same-length-2
+    (λ c. search needs)
     returns-2
-    same-length-3
+    (λ c. search needs)
     returns-3)

@@ -8,18 +8,6 @@ use Rattle.sector.specs.Item.{itemBytes}
 use Rattle.call_append_variable.proofs.header_of.Statement.{statement}
 use Rattle.call_append_variable.proofs.header_of.Tie as tie
 
-span-for-requires : tie.Need-span-for-requires
-span-for-requires c κs = search needs
-
-sized-data-requires : tie.Need-sized-data-requires
-sized-data-requires c κs = search needs
-
-cast-item-bytes : tie.Need-cast-item-bytes
-cast-item-bytes c = search needs
-
-item-bytes-requires : tie.Need-item-bytes-requires
-item-bytes-requires c κs = search needs
-
 returns : tie.Need-returns
 returns c =
     let given = c .before .before .before .before .before .args .item in
@@ -29,4 +17,4 @@ returns c =
 pub header-of-spec : {M : Type 1} → statement M
 header-of-spec =
     tie.close
-    (tie.spec span-for-requires sized-data-requires cast-item-bytes item-bytes-requires returns)
+    (tie.spec (λ c κs. search needs) (λ c κs. search needs) (λ c. search needs) (λ c κs. search needs) returns)

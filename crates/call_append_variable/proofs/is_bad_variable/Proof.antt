@@ -13,9 +13,6 @@ named : (c : tie.After-kind-of) → hasPayload (itemType (c .before .args .item 
 unfolding kindOf
 named c = sym (ap (λ (kind : Kind). kind .payload) (c .kind-of .ensures))
 
-kind-of-requires : tie.Need-kind-of-requires
-kind-of-requires c κs = search needs
-
 returns : tie.Need-returns
 returns c =
     let kind = c .before .before in
@@ -27,4 +24,4 @@ returns-2 c =
     rw (named kind ∙ not-false (kind .kind-of .result .payload) (c .before .if1 .left))
 
 pub is-bad-variable-spec : {M : Type 1} → statement M
-is-bad-variable-spec = tie.close (tie.spec kind-of-requires returns returns-2)
+is-bad-variable-spec = tie.close (tie.spec (λ c κs. search needs) returns returns-2)

@@ -41,12 +41,6 @@ passed c = tested (c .before) ∙ not-false (c .before .is-done .result) (c .if1
 requested : (c : tie.Else2) → variableRequest (c .before .before .before .before .before .before .before .args .item) .0 ≡ false
 requested c = sym (c .before .is-bad-variable .ensures) ∙ c .if2 .left
 
-append-refusal-requires : tie.Need-append-refusal-requires
-append-refusal-requires c κs = search needs
-
-is-done-requires : tie.Need-is-done-requires
-is-done-requires c κs = search needs
-
 returns : tie.Need-returns
 returns c =
     let z = c .before .before .before .before .before .args in
@@ -54,18 +48,12 @@ returns c =
     (tested (c .before) ∙ not-true (c .before .is-done .result) (c .if1 .taken))
     (c .before .before .append-refusal .ensures)
 
-is-bad-variable-requires : tie.Need-is-bad-variable-requires
-is-bad-variable-requires c κs = search needs
-
 returns-2 : tie.Need-returns-2
 returns-2 c =
     let else = c .before .before in
     let z = else .before .before .before .before .before .args in
     refusal-passed (frontChecks (z .image .now) (z .page)) (dataChecks (z .page) (z .item) (spanFor (length (z .payload .now)))) (passed else)
     (rw (sym (c .before .is-bad-variable .ensures) ∙ c .if2 .taken))
-
-span-for-requires : tie.Need-span-for-requires
-span-for-requires c κs = search needs
 
 returns-3 : tie.Need-returns-3
 returns-3 c =
@@ -75,9 +63,6 @@ returns-3 c =
     rw (← c .before .span-for .ensures)
     (refusal-passed (frontChecks (z .image .now) (z .page)) (dataChecks (z .page) (z .item) (c .before .span-for .result)) (passed else)
     (rw (requested request, lt-ltb _ _ (c .if3 .taken))))
-
-get-free-entry-count-requires : tie.Need-get-free-entry-count-requires
-get-free-entry-count-requires c κs = search needs
 
 returns-4 : tie.Need-returns-4
 returns-4 c =
@@ -103,13 +88,13 @@ pub variable-refusal-spec : {M : Type 1} → statement M
 variable-refusal-spec =
     tie.close
     (tie.spec
-    append-refusal-requires
-    is-done-requires
+    (λ c κs. search needs)
+    (λ c κs. search needs)
     returns
-    is-bad-variable-requires
+    (λ c κs. search needs)
     returns-2
-    span-for-requires
+    (λ c κs. search needs)
     returns-3
-    get-free-entry-count-requires
+    (λ c κs. search needs)
     returns-4
     returns-5)

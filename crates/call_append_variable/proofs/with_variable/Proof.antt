@@ -7,15 +7,6 @@ use Rattle.page.specs.Record.{withItem}
 use Rattle.call_append_variable.proofs.with_variable.Statement.{statement}
 use Rattle.call_append_variable.proofs.with_variable.Tie as tie
 
-calculate-hash-requires : tie.Need-calculate-hash-requires
-calculate-hash-requires c κs = search needs
-
-span-for-requires : tie.Need-span-for-requires
-span-for-requires c κs = search needs
-
-with-item-requires : tie.Need-with-item-requires
-with-item-requires c κs = search needs
-
 returns : tie.Need-returns
 returns c =
     let given = c .before .before .before .before .before .args in
@@ -24,4 +15,4 @@ returns c =
 
 pub with-variable-spec : {M : Type 1} → statement M
 with-variable-spec =
-    tie.close (tie.spec calculate-hash-requires span-for-requires with-item-requires returns)
+    tie.close (tie.spec (λ c κs. search needs) (λ c κs. search needs) (λ c κs. search needs) returns)

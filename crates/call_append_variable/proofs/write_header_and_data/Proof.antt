@@ -8,24 +8,6 @@ use borrow.Author.Needs.{needs}
 use Rattle.call_append_variable.proofs.write_header_and_data.Statement.{statement}
 use Rattle.call_append_variable.proofs.write_header_and_data.Tie as tie
 
-entry-address-requires : tie.Need-entry-address-requires
-entry-address-requires c κs = search needs
-
-write-aligned-requires : tie.Need-write-aligned-requires
-write-aligned-requires c κs = search needs
-
-remaining-requires : tie.Need-remaining-requires
-remaining-requires c κs = search needs
-
-add-entry-address : tie.Need-add-entry-address
-add-entry-address c = search needs
-
-entry-address-requires-2 : tie.Need-entry-address-requires-2
-entry-address-requires-2 c κs = search needs
-
-write-aligned-requires-2 : tie.Need-write-aligned-requires-2
-write-aligned-requires-2 c κs = search needs
-
 add-result : tie.Need-add-result
 add-result c =
     let behind = c .before .before in
@@ -38,9 +20,6 @@ add-result c =
       behind .write-aligned2 .ensures .0,
       length-units-le (behind .before .entry-address2 .result) (z .payload .now),
     )
-
-same-length : tie.Need-same-length
-same-length c = search needs
 
 returns : tie.Need-returns
 returns c =
@@ -63,12 +42,12 @@ pub write-header-and-data-spec : {M : Type 1} → statement M
 write-header-and-data-spec =
     tie.close
     (tie.spec
-    entry-address-requires
-    write-aligned-requires
-    remaining-requires
-    add-entry-address
-    entry-address-requires-2
-    write-aligned-requires-2
+    (λ c κs. search needs)
+    (λ c κs. search needs)
+    (λ c κs. search needs)
+    (λ c. search needs)
+    (λ c κs. search needs)
+    (λ c κs. search needs)
     add-result
-    same-length
+    (λ c. search needs)
     returns)

@@ -15,24 +15,6 @@ use borrow.Author.Needs.{needs}
 use Rattle.call_append_variable.proofs.write_variable.Statement.{statement}
 use Rattle.call_append_variable.proofs.write_variable.Tie as tie
 
-get-next-free-entry-requires : tie.Need-get-next-free-entry-requires
-get-next-free-entry-requires c κs = search needs
-
-header-of-requires : tie.Need-header-of-requires
-header-of-requires c κs = search needs
-
-write-header-and-data-requires : tie.Need-write-header-and-data-requires
-write-header-and-data-requires c κs = search needs
-
-span-for-requires : tie.Need-span-for-requires
-span-for-requires c κs = search needs
-
-remaining-requires : tie.Need-remaining-requires
-remaining-requires c κs = search needs
-
-seal-requires : tie.Need-seal-requires
-seal-requires c κs = search needs
-
 add-result : tie.Need-add-result
 add-result c =
     let sealed = c .before .before in
@@ -50,9 +32,6 @@ add-result c =
       sealed .seal .ensures .0,
       length-seal-le at (span .span-for .result) (z .map) (search needs),
     )
-
-same-length : tie.Need-same-length
-same-length c = search needs
 
 returns : tie.Need-returns
 unfolding variablePlan itemPlan
@@ -79,12 +58,12 @@ pub write-variable-spec : {M : Type 1} → statement M
 write-variable-spec =
     tie.close
     (tie.spec
-    get-next-free-entry-requires
-    header-of-requires
-    write-header-and-data-requires
-    span-for-requires
-    remaining-requires
-    seal-requires
+    (λ c κs. search needs)
+    (λ c κs. search needs)
+    (λ c κs. search needs)
+    (λ c κs. search needs)
+    (λ c κs. search needs)
+    (λ c κs. search needs)
     add-result
-    same-length
+    (λ c. search needs)
     returns)

@@ -28,15 +28,6 @@ passed : (c : tie.Else1) →
     accepted (variableChecks (z .image .now) (z .page) (z .item) (z .payload .now)) ≡ true
 passed c = tested (c .before) ∙ not-false (c .before .is-done .result) (c .if1 .left)
 
-variable-refusal-requires : tie.Need-variable-refusal-requires
-variable-refusal-requires c κs = search needs
-
-is-done-requires : tie.Need-is-done-requires
-is-done-requires c κs = search needs
-
-same-length : tie.Need-same-length
-same-length c = search needs
-
 returns : tie.Need-returns
 unfolding appendVariable appendVariableImage
 returns c =
@@ -61,9 +52,6 @@ write-variable-requires c κs =
     let room = variable-room (z .image .now) (z .page) (z .item) (z .payload .now) (passed (new .before)) in
     (room .whole, room .room, ap (λ (page : ThinPage). page .map) (new .with-variable .ensures))
 
-same-length-2 : tie.Need-same-length-2
-same-length-2 c = search needs
-
 returns-2 : tie.Need-returns-2
 unfolding appendVariable appendVariableImage
 returns-2 c =
@@ -73,9 +61,6 @@ returns-2 c =
     call-stopped (variableChecks (z .image .now) (z .page) (z .item) (z .payload .now)) (z .page) (withVariable (z .page) (z .item) (z .payload .now)) (z .image .now)
     (z .stop) (variablePlan (z .page) (z .item) (z .payload .now)) (passed else)
     (written .write-variable .ensures .0) (c .if2 .taken) (written .write-variable .ensures .1)
-
-same-length-3 : tie.Need-same-length-3
-same-length-3 c = search needs
 
 returns-3 : tie.Need-returns-3
 unfolding appendVariable appendVariableImage
@@ -91,13 +76,13 @@ pub write-variable-sized-item-spec : {M : Type 1} → statement M
 write-variable-sized-item-spec =
     tie.close
     (tie.spec
-    variable-refusal-requires
-    is-done-requires
-    same-length
+    (λ c κs. search needs)
+    (λ c κs. search needs)
+    (λ c. search needs)
     returns
     with-variable-requires
     write-variable-requires
-    same-length-2
+    (λ c. search needs)
     returns-2
-    same-length-3
+    (λ c. search needs)
     returns-3)

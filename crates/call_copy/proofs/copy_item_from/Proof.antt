@@ -102,15 +102,6 @@ module _ (c : tie.After-write-entries) where
       new .with-item .ensures
       ∙ with-copied (page passed) (source passed) (read .entry-at .result) (index passed) _ (read .entry-at .ensures) (new .before .hash-of-item .ensures)
 
-copy-refusal-requires : tie.Need-copy-refusal-requires
-copy-refusal-requires c κs = search needs
-
-is-done-requires : tie.Need-is-done-requires
-is-done-requires c κs = search needs
-
-same-length : tie.Need-same-length
-same-length c = search needs
-
 returns : tie.Need-returns
 unfolding copyIn copyInImage
 returns c =
@@ -120,25 +111,10 @@ returns c =
 entry-at-requires : tie.Need-entry-at-requires
 entry-at-requires c κs = (fits c .source-whole, fits c .inside)
 
-array-read-span : tie.Need-array-read-span
-array-read-span c = search needs
-
-cast-span : tie.Need-cast-span
-cast-span c = search needs
-
-hash-of-item-requires : tie.Need-hash-of-item-requires
-hash-of-item-requires c κs = search needs
-
-array-read-with-item : tie.Need-array-read-with-item
-array-read-with-item c = search needs
-
 with-item-requires : tie.Need-with-item-requires
 with-item-requires c κs =
     let read = c .before in
     (fits (read .before) .fit, spans read .0, spans read .2)
-
-get-next-free-entry-requires : tie.Need-get-next-free-entry-requires
-get-next-free-entry-requires c κs = search needs
 
 entry-address-requires : tie.Need-entry-address-requires
 entry-address-requires c κs = let fit = fits (c .before .before .before .before .before) in omega arith
@@ -148,12 +124,6 @@ add-entry-address c = let fit = spans (c .before .before .before .before .before
 
 entry-address-requires-2 : tie.Need-entry-address-requires-2
 entry-address-requires-2 c κs = spans (c .before .before .before .before .before) .1
-
-sub-write-entries : tie.Need-sub-write-entries
-sub-write-entries c = search needs
-
-part-write-entries-start : tie.Need-part-write-entries-start
-part-write-entries-start c = search needs
 
 part-write-entries-end : tie.Need-part-write-entries-end
 part-write-entries-end c =
@@ -175,18 +145,12 @@ write-entries-requires c κs =
       omega arith,
     )
 
-same-length-2 : tie.Need-same-length-2
-same-length-2 c = search needs
-
 returns-2 : tie.Need-returns-2
 unfolding copyIn copyInImage
 returns-2 c =
     let done = c .before .before .before in
     let taken = accepts (read done .before) in
     (rw (taken, ← total done, lt-ltb _ _ (c .if2 .taken)), rw taken (programmed done))
-
-same-length-3 : tie.Need-same-length-3
-same-length-3 c = search needs
 
 returns-3 : tie.Need-returns-3
 unfolding copyIn copyInImage
@@ -199,25 +163,25 @@ pub copy-item-from-spec : {M : Type 1} → statement M
 copy-item-from-spec =
     tie.close
     (tie.spec
-    copy-refusal-requires
-    is-done-requires
-    same-length
+    (λ c κs. search needs)
+    (λ c κs. search needs)
+    (λ c. search needs)
     returns
     entry-at-requires
-    array-read-span
-    cast-span
-    hash-of-item-requires
-    array-read-with-item
+    (λ c. search needs)
+    (λ c. search needs)
+    (λ c κs. search needs)
+    (λ c. search needs)
     with-item-requires
-    get-next-free-entry-requires
+    (λ c κs. search needs)
     entry-address-requires
     add-entry-address
     entry-address-requires-2
-    sub-write-entries
-    part-write-entries-start
+    (λ c. search needs)
+    (λ c. search needs)
     part-write-entries-end
     write-entries-requires
-    same-length-2
+    (λ c. search needs)
     returns-2
-    same-length-3
+    (λ c. search needs)
     returns-3)

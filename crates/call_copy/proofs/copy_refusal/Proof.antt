@@ -41,12 +41,6 @@ returns c = rw (ne-eqb _ _ (c .if1 .taken))
 returns-2 : tie.Need-returns-2
 returns-2 c = rw (eq-eqb _ _ (c .before .if1 .left), ne-eqb _ _ (c .if2 .taken))
 
-active-refusal-requires : tie.Need-active-refusal-requires
-active-refusal-requires c κs = search needs
-
-is-done-requires : tie.Need-is-done-requires
-is-done-requires c κs = search needs
-
 returns-3 : tie.Need-returns-3
 returns-3 c =
     let at = c .before in
@@ -56,12 +50,6 @@ returns-4 : tie.Need-returns-4
 returns-4 c =
     let at = c .before .before in
     sym (decided at ∙ rw (recorded at ∙ not-false (at .is-done .result) (c .before .if3 .left), le-ltb _ _ (c .if4 .taken)))
-
-entry-at-requires : tie.Need-entry-at-requires
-entry-at-requires c κs = search needs
-
-item-refusal-requires : tie.Need-item-refusal-requires
-item-refusal-requires c κs = search needs
 
 returns-5 : tie.Need-returns-5
 returns-5 c =
@@ -76,10 +64,10 @@ copy-refusal-spec =
     (tie.spec
     returns
     returns-2
-    active-refusal-requires
-    is-done-requires
+    (λ c κs. search needs)
+    (λ c κs. search needs)
     returns-3
     returns-4
-    entry-at-requires
-    item-refusal-requires
+    (λ c κs. search needs)
+    (λ c κs. search needs)
     returns-5)

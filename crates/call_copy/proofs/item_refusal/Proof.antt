@@ -23,31 +23,16 @@ spans c =
     let args = c .before .before .before .before .args in
     rw (ne-eqb _ _ (c .before .if2 .left), le-ltb entriesPerPage (args .index + spanOf (args .t2)) (omega arith))
 
-loads-requires : tie.Need-loads-requires
-loads-requires c κs = search needs
-
 returns : tie.Need-returns
 returns c = rw (sym (c .before .loads .ensures) ∙ not-true (c .before .loads .result) (c .if1 .taken))
 
-array-read-span : tie.Need-array-read-span
-array-read-span c = search needs
-
-cast-span : tie.Need-cast-span
-cast-span c = search needs
-
 returns-2 : tie.Need-returns-2
 returns-2 c = rw (loaded (c .before), eq-eqb _ _ (c .if2 .taken))
-
-sub-if3 : tie.Need-sub-if3
-sub-if3 c = search needs
 
 returns-3 : tie.Need-returns-3
 returns-3 c =
     let args = c .before .before .before .before .args in
     rw (loaded (c .before .before), ne-eqb _ _ (c .before .if2 .left), lt-ltb entriesPerPage (args .index + spanOf (args .t2)) (omega arith))
-
-get-free-entry-count-requires : tie.Need-get-free-entry-count-requires
-get-free-entry-count-requires c κs = search needs
 
 returns-4 : tie.Need-returns-4
 returns-4 c =
@@ -63,13 +48,13 @@ pub item-refusal-spec : {M : Type 1} → statement M
 item-refusal-spec =
     tie.close
     (tie.spec
-    loads-requires
+    (λ c κs. search needs)
     returns
-    array-read-span
-    cast-span
+    (λ c. search needs)
+    (λ c. search needs)
     returns-2
-    sub-if3
+    (λ c. search needs)
     returns-3
-    get-free-entry-count-requires
+    (λ c κs. search needs)
     returns-4
     returns-5)

@@ -38,29 +38,14 @@ module _ (c : tie.After-is-written Inv-loop μ-loop) where
       ∙ written-next (start .args .map) i (start .args .index + start .args .span) (omega arith) (omega arith) (omega arith)
       ∙ ap (λ (here : Bool). here && behind) (sym (c .is-written .ensures ∙ ap (sameState Written) (c .before .state-at .ensures)))
 
-add-i-end : tie.Need-add-i-end Inv-loop μ-loop
-add-i-end c = search needs
-
 loop-holds : tie.Need-loop-holds Inv-loop μ-loop
 loop-holds c =
     let args = c .args in
     let all : args .index + args .span - args .index ≡ args .span = omega arith in
     (omega arith, search needs, ap (λ (n : ℕ). every (sameState Written) (take n (drop (args .index) (statesOf (args .map))))) all)
 
-state-at-requires : tie.Need-state-at-requires Inv-loop μ-loop
-state-at-requires c κs = search needs
-
-is-written-requires : tie.Need-is-written-requires Inv-loop μ-loop
-is-written-requires c κs = search needs
-
 returns : tie.Need-returns Inv-loop μ-loop
 returns c = sym (turn (c .before) ∙ ap (λ (here : Bool). here && behind (c .before)) (not-true (c .before .is-written .result) (c .if1 .taken)))
-
-add-i : tie.Need-add-i Inv-loop μ-loop
-add-i c = search needs
-
-loop-less : tie.Need-loop-less Inv-loop μ-loop
-loop-less c = search needs
 
 loop-again : tie.Need-loop-again Inv-loop μ-loop
 loop-again c = (
@@ -82,12 +67,12 @@ all-written-spec =
     (tie.spec
     Inv-loop
     μ-loop
-    add-i-end
+    (λ c. search needs)
     loop-holds
-    state-at-requires
-    is-written-requires
+    (λ c κs. search needs)
+    (λ c κs. search needs)
     returns
-    add-i
-    loop-less
+    (λ c. search needs)
+    (λ c. search needs)
     loop-again
     returns-2)

@@ -37,15 +37,6 @@ accepts c = checked (c .before) ∙ not-false (c .before .is-done .result) (c .i
 fits : (c : tie.Else1) → EraseFits (image (c .before)) (page (c .before)) (start (c .before) .args .index) (start (c .before) .args .span)
 fits c = erase-fits _ _ _ _ (accepts c)
 
-erase-refusal-requires : tie.Need-erase-refusal-requires
-erase-refusal-requires c κs = search needs
-
-is-done-requires : tie.Need-is-done-requires
-is-done-requires c κs = search needs
-
-same-length : tie.Need-same-length
-same-length c = search needs
-
 returns : tie.Need-returns
 unfolding erase eraseImage
 returns c =
@@ -60,9 +51,6 @@ write-marks-requires : tie.Need-write-marks-requires
 write-marks-requires c κs =
     let fit = fits (c .before .before .before) in
     (fit .whole, fit .some, fit .spans)
-
-same-length-2 : tie.Need-same-length-2
-same-length-2 c = search needs
 
 returns-2 : tie.Need-returns-2
 unfolding erase eraseImage
@@ -81,11 +69,11 @@ pub erase-item-spec : {M : Type 1} → statement M
 erase-item-spec =
     tie.close
     (tie.spec
-    erase-refusal-requires
-    is-done-requires
-    same-length
+    (λ c κs. search needs)
+    (λ c κs. search needs)
+    (λ c. search needs)
     returns
     with-erased-requires
     write-marks-requires
-    same-length-2
+    (λ c. search needs)
     returns-2)

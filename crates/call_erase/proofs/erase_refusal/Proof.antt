@@ -14,16 +14,10 @@ fit c = sym (c .before .fit-to-use .ensures) ∙ not-false (c .before .fit-to-us
 returns : tie.Need-returns
 returns c = rw (ne-eqb _ _ (c .if1 .taken))
 
-fit-to-use-requires : tie.Need-fit-to-use-requires
-fit-to-use-requires c κs = search needs
-
 returns-2 : tie.Need-returns-2
 returns-2 c =
     let called = c .before in
     rw (eq-eqb _ _ (called .before .if1 .left), sym (called .fit-to-use .ensures) ∙ not-true (called .fit-to-use .result) (c .if2 .taken))
-
-is-erasable-requires : tie.Need-is-erasable-requires
-is-erasable-requires c κs = search needs
 
 returns-3 : tie.Need-returns-3
 returns-3 c =
@@ -33,9 +27,6 @@ returns-3 c =
       fit (called .before),
       sym (called .is-erasable .ensures) ∙ not-true (called .is-erasable .result) (c .if3 .taken),
     )
-
-range-refusal-requires : tie.Need-range-refusal-requires
-range-refusal-requires c κs = search needs
 
 returns-4 : tie.Need-returns-4
 returns-4 c =
@@ -52,9 +43,9 @@ erase-refusal-spec =
     tie.close
     (tie.spec
     returns
-    fit-to-use-requires
+    (λ c κs. search needs)
     returns-2
-    is-erasable-requires
+    (λ c κs. search needs)
     returns-3
-    range-refusal-requires
+    (λ c κs. search needs)
     returns-4)

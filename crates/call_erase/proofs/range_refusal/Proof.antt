@@ -31,9 +31,6 @@ returns-3 c =
     let args = c .before .before .before .args in
     rw (ne-eqb _ _ (c .before .before .if1 .left), lt-ltb entriesPerPage (args .index + args .span) (omega arith))
 
-all-written-requires : tie.Need-all-written-requires
-all-written-requires c κs = search needs
-
 returns-4 : tie.Need-returns-4
 returns-4 c = rw (spans (c .before .before), sym (c .before .all-written .ensures) ∙ not-true (c .before .all-written .result) (c .if4 .taken))
 
@@ -42,4 +39,4 @@ returns-5 c = rw (spans (c .before .before), sym (c .before .all-written .ensure
 
 pub range-refusal-spec : {M : Type 1} → statement M
 range-refusal-spec =
-    tie.close (tie.spec returns returns-2 returns-3 all-written-requires returns-4 returns-5)
+    tie.close (tie.spec returns returns-2 returns-3 (λ c κs. search needs) returns-4 returns-5)

@@ -23,23 +23,11 @@ used c =
     let clauses = fit c in
     omega (arith, written-le (c .args .page .map) (c .args .index) (c .args .span) (long c) (c .pre .1) (c .pre .2))
 
-mark-range-requires : tie.Need-mark-range-requires
-mark-range-requires c κs = search needs
-
-cast-without : tie.Need-cast-without
-cast-without c = search needs
-
 without-requires : tie.Need-without-requires
 without-requires c κs = let clauses = fit (c .before .before .before .before) in omega arith
 
-cast-t12 : tie.Need-cast-t12
-cast-t12 c = search needs
-
 sub-t13 : tie.Need-sub-t13
 sub-t13 c = used (c .before .before .before .before .before .before .before)
-
-cast-t14 : tie.Need-cast-t14
-cast-t14 c = search needs
 
 add-t15 : tie.Need-add-t15
 add-t15 c =
@@ -58,11 +46,11 @@ pub with-erased-spec : {M : Type 1} → statement M
 with-erased-spec =
     tie.close
     (tie.spec
-    mark-range-requires
-    cast-without
+    (λ c κs. search needs)
+    (λ c. search needs)
     without-requires
-    cast-t12
+    (λ c. search needs)
     sub-t13
-    cast-t14
+    (λ c. search needs)
     add-t15
     returns)

@@ -4,12 +4,9 @@ use Rattle.call_hash_bound.specs.Bound.{hashBound}
 use Rattle.call_hash_bound.proofs.hashed_item_bound.Statement.{statement}
 use Rattle.call_hash_bound.proofs.hashed_item_bound.Tie as tie
 
-bound-from-requires : tie.Need-bound-from-requires
-bound-from-requires c κs = search needs
-
 returns : tie.Need-returns
 unfolding hashBound
 returns c = c .bound-from .ensures
 
 pub hashed-item-bound-spec : {M : Type 1} → statement M
-hashed-item-bound-spec = tie.close (tie.spec bound-from-requires returns)
+hashed-item-bound-spec = tie.close (tie.spec (λ c κs. search needs) returns)

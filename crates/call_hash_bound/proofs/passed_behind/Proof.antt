@@ -4,12 +4,6 @@ use borrow.Author.Tests.{le-leb, lt-leb}
 use Rattle.call_hash_bound.proofs.passed_behind.Statement.{statement}
 use Rattle.call_hash_bound.proofs.passed_behind.Tie as tie
 
-array-read-span : tie.Need-array-read-span
-array-read-span c = search needs
-
-cast-span : tie.Need-cast-span
-cast-span c = search needs
-
 returns : tie.Need-returns
 returns c = (λ rest e. rw (lt-leb _ _ (c .if1 .taken)), search needs)
 
@@ -20,4 +14,4 @@ returns-3 : tie.Need-returns-3
 returns-3 c = (λ rest e. rw (le-leb _ _ (c .before .if1 .left), e, le-leb _ _ (c .if2 .left)), search needs)
 
 pub passed-behind-spec : {M : Type 1} → statement M
-passed-behind-spec = tie.close (tie.spec array-read-span cast-span returns returns-2 returns-3)
+passed-behind-spec = tie.close (tie.spec (λ c. search needs) (λ c. search needs) returns returns-2 returns-3)

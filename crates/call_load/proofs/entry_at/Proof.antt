@@ -17,30 +17,6 @@ Inv-loop image index start entry₀ k₀ entry k =
 abbrev μ-loop : tie.MeasureT-loop
 μ-loop image index start entry₀ k₀ entry k = 32 - k
 
-mul-start : tie.Need-mul-start Inv-loop μ-loop
-mul-start c = search needs
-
-add-start : tie.Need-add-start Inv-loop μ-loop
-add-start c = search needs
-
-loop-holds : tie.Need-loop-holds Inv-loop μ-loop
-loop-holds c = search needs
-
-add-entry : tie.Need-add-entry Inv-loop μ-loop
-add-entry c = search needs
-
-shared-slice-read-entry : tie.Need-shared-slice-read-entry Inv-loop μ-loop
-shared-slice-read-entry c = search needs
-
-array-write-entry : tie.Need-array-write-entry Inv-loop μ-loop
-array-write-entry c = search needs
-
-add-k : tie.Need-add-k Inv-loop μ-loop
-add-k c = search needs
-
-loop-less : tie.Need-loop-less Inv-loop μ-loop
-loop-less c = search needs
-
 loop-again : tie.Need-loop-again Inv-loop μ-loop
 loop-again c =
     let args = c .before .before .before .args in
@@ -62,13 +38,13 @@ entry-at-spec =
     (tie.spec
     Inv-loop
     μ-loop
-    mul-start
-    add-start
-    loop-holds
-    add-entry
-    shared-slice-read-entry
-    array-write-entry
-    add-k
-    loop-less
+    (λ c. search needs)
+    (λ c. search needs)
+    (λ c. search needs)
+    (λ c. search needs)
+    (λ c. search needs)
+    (λ c. search needs)
+    (λ c. search needs)
+    (λ c. search needs)
     loop-again
     returns)

@@ -35,15 +35,6 @@ item-made : (c : tie.After-type-byte)
     set (c .before .entry-at .result) 1 (c .type-byte .result) ≡ sanitized (entryAt (image at) (index at))
 item-made c = rw (c .type-byte .ensures, c .before .entry-at .ensures)
 
-entry-refusal-requires : tie.Need-entry-refusal-requires
-entry-refusal-requires c κs = search needs
-
-number-of-requires : tie.Need-number-of-requires
-number-of-requires c κs = search needs
-
-refused-requires : tie.Need-refused-requires
-refused-requires c κs = search needs
-
 returns : tie.Need-returns
 unfolding loadItem
 returns c =
@@ -54,23 +45,11 @@ returns c =
 entry-at-requires : tie.Need-entry-at-requires
 entry-at-requires c κs = entry-fits (image (c .before)) (index (c .before)) (enters c)
 
-array-read-type-byte : tie.Need-array-read-type-byte
-array-read-type-byte c = search needs
-
-type-byte-requires : tie.Need-type-byte-requires
-type-byte-requires c κs = search needs
-
-array-write-item : tie.Need-array-write-item
-array-write-item c = search needs
-
 loads-at-requires : tie.Need-loads-at-requires
 loads-at-requires c κs =
     let at = c .before .before .before in
     let fits = entry-fits (image at) (index at) (enters (c .before .before)) in
     (fits .0, fits .1, item-made c)
-
-refused-requires-2 : tie.Need-refused-requires-2
-refused-requires-2 c κs = search needs
 
 returns-2 : tie.Need-returns-2
 unfolding loadItem
@@ -98,15 +77,15 @@ pub load-item-spec : {M : Type 1} → statement M
 load-item-spec =
     tie.close
     (tie.spec
-    entry-refusal-requires
-    number-of-requires
-    refused-requires
+    (λ c κs. search needs)
+    (λ c κs. search needs)
+    (λ c κs. search needs)
     returns
     entry-at-requires
-    array-read-type-byte
-    type-byte-requires
-    array-write-item
+    (λ c. search needs)
+    (λ c κs. search needs)
+    (λ c. search needs)
     loads-at-requires
-    refused-requires-2
+    (λ c κs. search needs)
     returns-2
     returns-3)

@@ -22,39 +22,9 @@ asked c =
     let e : start + 32 - start ≡ 32 = omega arith in
     ap (λ (n : ℕ). allOnes (take n (drop start (args .image .now)))) (sym e) ∙ sym (c .all-ones .ensures)
 
-mul-start : tie.Need-mul-start
-mul-start c = search needs
-
-add-start : tie.Need-add-start
-add-start c = search needs
-
-add-end : tie.Need-add-end
-add-end c = search needs
-
-sub-all-ones : tie.Need-sub-all-ones
-sub-all-ones c = search needs
-
-part-all-ones-start : tie.Need-part-all-ones-start
-part-all-ones-start c = search needs
-
-part-all-ones-end : tie.Need-part-all-ones-end
-part-all-ones-end c = search needs
-
-all-ones-requires : tie.Need-all-ones-requires
-all-ones-requires c κs = search needs
-
 returns : tie.Need-returns
 unfolding loads
 returns c = rw (asked (c .before) ∙ c .if1 .taken)
-
-item-crc-requires : tie.Need-item-crc-requires
-item-crc-requires c κs = search needs
-
-add-number-at : tie.Need-add-number-at
-add-number-at c = search needs
-
-number-at-requires : tie.Need-number-at-requires
-number-at-requires c κs = search needs
 
 returns-2 : tie.Need-returns-2
 unfolding loads
@@ -70,15 +40,15 @@ pub loads-at-spec : {M : Type 1} → statement M
 loads-at-spec =
     tie.close
     (tie.spec
-    mul-start
-    add-start
-    add-end
-    sub-all-ones
-    part-all-ones-start
-    part-all-ones-end
-    all-ones-requires
+    (λ c. search needs)
+    (λ c. search needs)
+    (λ c. search needs)
+    (λ c. search needs)
+    (λ c. search needs)
+    (λ c. search needs)
+    (λ c κs. search needs)
     returns
-    item-crc-requires
-    add-number-at
-    number-at-requires
+    (λ c κs. search needs)
+    (λ c. search needs)
+    (λ c κs. search needs)
     returns-2)

@@ -26,15 +26,6 @@ module _ (c : tie.After-number-of) where
 enters : (c : tie.Else1) → accepted (entryChecks (image (c .before)) (index (c .before))) ≡ true
 enters c = checked (c .before) ∙ eq-eqb _ _ (c .if1 .left)
 
-entry-refusal-requires : tie.Need-entry-refusal-requires
-entry-refusal-requires c κs = search needs
-
-number-of-requires : tie.Need-number-of-requires
-number-of-requires c κs = search needs
-
-refused-requires : tie.Need-refused-requires
-refused-requires c κs = search needs
-
 returns : tie.Need-returns
 unfolding rawEntry
 returns c =
@@ -55,9 +46,9 @@ pub read-raw-entry-spec : {M : Type 1} → statement M
 read-raw-entry-spec =
     tie.close
     (tie.spec
-    entry-refusal-requires
-    number-of-requires
-    refused-requires
+    (λ c κs. search needs)
+    (λ c κs. search needs)
+    (λ c κs. search needs)
     returns
     entry-at-requires
     returns-2)

@@ -13,19 +13,10 @@ use Rattle.call_load.proofs.size_of.Tie as tie
 size-bytes : (entry : List ℕ) → length entry ≡ 32 → sizeOf entry ≡ getD entry 24 0 + 256 * getD entry 25 0
 size-bytes entry h = rw (drop-cons entry 24 0 (omega arith), drop-cons entry 25 0 (omega arith)) (omega arith)
 
-array-read-u16-of : tie.Need-array-read-u16-of
-array-read-u16-of c = search needs
-
-array-read-u16-of-2 : tie.Need-array-read-u16-of-2
-array-read-u16-of-2 c = search needs
-
-u16-of-requires : tie.Need-u16-of-requires
-u16-of-requires c κs = search needs
-
 returns : tie.Need-returns
 returns c =
     let length-entry = c .before .good .0 .1 .0 .1 in
     (c .u16-of .ensures .0 ∙ sym (size-bytes (c .before .args .t1) length-entry), c .u16-of .ensures .1)
 
 pub size-of-spec : {M : Type 1} → statement M
-size-of-spec = tie.close (tie.spec array-read-u16-of array-read-u16-of-2 u16-of-requires returns)
+size-of-spec = tie.close (tie.spec (λ c. search needs) (λ c. search needs) (λ c κs. search needs) returns)

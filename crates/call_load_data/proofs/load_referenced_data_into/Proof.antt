@@ -111,12 +111,6 @@ module _ (c : tie.After-rounded-up) where
 abbrev no-data : Answer → DataLoaded
 no-data answer = record { answer = answer; size = 0 }
 
-load-item-requires : tie.Need-load-item-requires
-load-item-requires c κs = search needs
-
-number-of-requires : tie.Need-number-of-requires
-number-of-requires c κs = search needs
-
 returns : tie.Need-returns
 unfolding dataAnswer dataOutput
 returns c =
@@ -129,9 +123,6 @@ returns c =
 payload-refusal-requires : tie.Need-payload-refusal-requires
 payload-refusal-requires c κs = load-fits (image (c .before .before)) (index (c .before .before)) (loads (c .before)) .1
 
-number-of-requires-2 : tie.Need-number-of-requires-2
-number-of-requires-2 c κs = search needs
-
 returns-2 : tie.Need-returns-2
 unfolding dataAnswer dataOutput
 returns-2 c =
@@ -139,9 +130,6 @@ returns-2 c =
     let refused = all-checked at ∙ ne-eqb _ _ (c .if2 .taken) in
     let then = refusal-append (loadChecks (image (start at)) (index (start at))) (checks at) in
     (rw (refused, then, loads (past at)) (ap no-data (payload-answered at)), rw refused)
-
-size-of-requires : tie.Need-size-of-requires
-size-of-requires c κs = search needs
 
 add-start : tie.Need-add-start
 add-start c = let fit = fits (c .before) in omega arith
@@ -152,17 +140,8 @@ mul-start c = let fit = fits (c .before) in omega arith
 add-start-2 : tie.Need-add-start-2
 add-start-2 c = let fit = fits (c .before) in omega arith
 
-rounded-up-requires : tie.Need-rounded-up-requires
-rounded-up-requires c κs = search needs
-
 add-end : tie.Need-add-end
 add-end c = let h = inside c in omega arith
-
-sub-copy-to : tie.Need-sub-copy-to
-sub-copy-to c = search needs
-
-part-copy-to-start : tie.Need-part-copy-to-start
-part-copy-to-start c = search needs
 
 part-copy-to-end : tie.Need-part-copy-to-end
 part-copy-to-end c = inside c .0
@@ -174,9 +153,6 @@ copy-to-requires c κs =
     let fit = inside here in
     let long = length-part (image at) (entryAddress (index at + 1)) (here .rounded-up .result) (fit .0) in
     omega arith
-
-same-length : tie.Need-same-length
-same-length c = search needs
 
 returns-3 : tie.Need-returns-3
 unfolding dataAnswer dataOutput
@@ -196,21 +172,21 @@ pub load-referenced-data-into-spec : {M : Type 1} → statement M
 load-referenced-data-into-spec =
     tie.close
     (tie.spec
-    load-item-requires
-    number-of-requires
+    (λ c κs. search needs)
+    (λ c κs. search needs)
     returns
     payload-refusal-requires
-    number-of-requires-2
+    (λ c κs. search needs)
     returns-2
-    size-of-requires
+    (λ c κs. search needs)
     add-start
     mul-start
     add-start-2
-    rounded-up-requires
+    (λ c κs. search needs)
     add-end
-    sub-copy-to
-    part-copy-to-start
+    (λ c. search needs)
+    (λ c. search needs)
     part-copy-to-end
     copy-to-requires
-    same-length
+    (λ c. search needs)
     returns-3)

@@ -31,18 +31,6 @@ spans c =
     let args = c .before .before .before .before .before .args in
     le-ltb entriesPerPage (args .index + spanOf (args .t1)) (omega arith)
 
-array-read-kind-of : tie.Need-array-read-kind-of
-array-read-kind-of c = search needs
-
-kind-of-requires : tie.Need-kind-of-requires
-kind-of-requires c κs = search needs
-
-array-read-type-byte : tie.Need-array-read-type-byte
-array-read-type-byte c = search needs
-
-type-byte-requires : tie.Need-type-byte-requires
-type-byte-requires c κs = search needs
-
 returns : tie.Need-returns
 returns c =
     let called = c .before .before .before in
@@ -51,31 +39,13 @@ returns c =
       c .type-byte .ensures,
     )
 
-array-read-span : tie.Need-array-read-span
-array-read-span c = search needs
-
-cast-span : tie.Need-cast-span
-cast-span c = search needs
-
 returns-2 : tie.Need-returns-2
 returns-2 c = rw (payload (c .before), eq-eqb _ _ (c .if2 .taken))
-
-sub-if3 : tie.Need-sub-if3
-sub-if3 c = search needs
 
 returns-3 : tie.Need-returns-3
 returns-3 c =
     let args = c .before .before .before .before .before .args in
     rw (payload (c .before .before), ne-eqb _ _ (c .before .if2 .left), lt-ltb entriesPerPage (args .index + spanOf (args .t1)) (omega arith))
-
-size-of-requires : tie.Need-size-of-requires
-size-of-requires c κs = search needs
-
-sub-if4 : tie.Need-sub-if4
-sub-if4 c = search needs
-
-mul-if4 : tie.Need-mul-if4
-mul-if4 c = search needs
 
 returns-4 : tie.Need-returns-4
 returns-4 c =
@@ -87,9 +57,6 @@ returns-4 c =
       ← c .before .size-of .ensures .0,
       lt-ltb _ _ (c .if4 .taken),
     )
-
-rounded-up-requires : tie.Need-rounded-up-requires
-rounded-up-requires c κs = search needs
 
 returns-5 : tie.Need-returns-5
 returns-5 c =
@@ -123,20 +90,20 @@ pub payload-refusal-spec : {M : Type 1} → statement M
 payload-refusal-spec =
     tie.close
     (tie.spec
-    array-read-kind-of
-    kind-of-requires
-    array-read-type-byte
-    type-byte-requires
+    (λ c. search needs)
+    (λ c κs. search needs)
+    (λ c. search needs)
+    (λ c κs. search needs)
     returns
-    array-read-span
-    cast-span
+    (λ c. search needs)
+    (λ c. search needs)
     returns-2
-    sub-if3
+    (λ c. search needs)
     returns-3
-    size-of-requires
-    sub-if4
-    mul-if4
+    (λ c κs. search needs)
+    (λ c. search needs)
+    (λ c. search needs)
     returns-4
-    rounded-up-requires
+    (λ c κs. search needs)
     returns-5
     returns-6)

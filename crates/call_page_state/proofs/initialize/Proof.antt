@@ -47,15 +47,6 @@ written : (c : tie.After-write-aligned) →
 unfolding initialisePlan
 written c = rw (← c .before .before .before .header-bytes .ensures) (c .write-aligned .ensures)
 
-initialize-refusal-requires : tie.Need-initialize-refusal-requires
-initialize-refusal-requires c κs = search needs
-
-is-done-requires : tie.Need-is-done-requires
-is-done-requires c κs = search needs
-
-same-length : tie.Need-same-length
-same-length c = search needs
-
 returns : tie.Need-returns
 unfolding initialise initialiseImage
 returns c =
@@ -64,12 +55,6 @@ returns c =
     call-refused (initialiseChecks (z .image .now) (z .page)) (z .page) (initialised (z .page) (z .sequence)) (z .image .now) (stops (z .stop) plan) (take (z .stop) plan)
     (c .before .before .initialize-refusal .ensures) (tested (c .before) ∙ not-true (c .before .is-done .result) (c .if1 .taken))
 
-header-bytes-requires : tie.Need-header-bytes-requires
-header-bytes-requires c κs = search needs
-
-slice-aggregate-write-aligned : tie.Need-slice-aggregate-write-aligned
-slice-aggregate-write-aligned c = search needs
-
 write-aligned-requires : tie.Need-write-aligned-requires
 write-aligned-requires c κs =
     let else = c .before .before .before in
@@ -77,9 +62,6 @@ write-aligned-requires c κs =
     let page = z .page in
     let usable = accepted-usable (z .image .now) page (not (isUninitialized (page .state))) ((not (allOnes (z .image .now)), CorruptedData) ∷ []) (passed else) in
     omega (arith, usable .whole)
-
-same-length-2 : tie.Need-same-length-2
-same-length-2 c = search needs
 
 returns-2 : tie.Need-returns-2
 unfolding initialise initialiseImage
@@ -90,16 +72,10 @@ returns-2 c =
     call-stopped (initialiseChecks (z .image .now) (z .page)) (z .page) (initialised (z .page) (z .sequence)) (z .image .now)
     (z .stop) (initialisePlan (z .sequence)) (passed else) (written write .0) (c .if2 .taken) (written write .1)
 
-header-crc-requires : tie.Need-header-crc-requires
-header-crc-requires c κs = search needs
-
 initialized-requires : tie.Need-initialized-requires
 initialized-requires c κs =
     let bytes = c .before .before .before .before .before .before .before in
     c .header-crc .ensures ∙ ap headerCrc (bytes .header-bytes .ensures) ∙ header-crc-bytes (bytes .before .before .before .before .before .before .args .sequence)
-
-same-length-3 : tie.Need-same-length-3
-same-length-3 c = search needs
 
 returns-3 : tie.Need-returns-3
 unfolding initialise initialiseImage
@@ -115,16 +91,16 @@ pub initialize-spec : {M : Type 1} → statement M
 initialize-spec =
     tie.close
     (tie.spec
-    initialize-refusal-requires
-    is-done-requires
-    same-length
+    (λ c κs. search needs)
+    (λ c κs. search needs)
+    (λ c. search needs)
     returns
-    header-bytes-requires
-    slice-aggregate-write-aligned
+    (λ c κs. search needs)
+    (λ c. search needs)
     write-aligned-requires
-    same-length-2
+    (λ c. search needs)
     returns-2
-    header-crc-requires
+    (λ c κs. search needs)
     initialized-requires
-    same-length-3
+    (λ c. search needs)
     returns-3)

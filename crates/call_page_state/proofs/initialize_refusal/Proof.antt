@@ -23,23 +23,14 @@ blank c = sym (c .before .is-uninitialized .ensures) ∙ not-false (c .before .i
 returns : tie.Need-returns
 returns c = rw (ne-eqb _ _ (c .if1 .taken))
 
-fit-to-use-requires : tie.Need-fit-to-use-requires
-fit-to-use-requires c κs = search needs
-
 returns-2 : tie.Need-returns-2
 returns-2 c =
     rw (whole (c .before .before), sym (c .before .fit-to-use .ensures) ∙ not-true (c .before .fit-to-use .result) (c .if2 .taken))
-
-is-uninitialized-requires : tie.Need-is-uninitialized-requires
-is-uninitialized-requires c κs = search needs
 
 returns-3 : tie.Need-returns-3
 returns-3 c =
     let passed = c .before .before in
     rw (whole (passed .before .before), fit passed, sym (c .before .is-uninitialized .ensures) ∙ not-true (c .before .is-uninitialized .result) (c .if3 .taken))
-
-all-ones-requires : tie.Need-all-ones-requires
-all-ones-requires c κs = search needs
 
 returns-4 : tie.Need-returns-4
 returns-4 c =
@@ -66,10 +57,10 @@ initialize-refusal-spec =
     tie.close
     (tie.spec
     returns
-    fit-to-use-requires
+    (λ c κs. search needs)
     returns-2
-    is-uninitialized-requires
+    (λ c κs. search needs)
     returns-3
-    all-ones-requires
+    (λ c κs. search needs)
     returns-4
     returns-5)

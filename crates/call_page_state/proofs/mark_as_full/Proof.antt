@@ -29,15 +29,6 @@ passed : (c : tie.Else1) →
     accepted (markFullChecks (z .image .now) (z .page)) ≡ true
 passed c = tested (c .before) ∙ not-false (c .before .is-done .result) (c .if1 .left)
 
-append-refusal-requires : tie.Need-append-refusal-requires
-append-refusal-requires c κs = search needs
-
-is-done-requires : tie.Need-is-done-requires
-is-done-requires c κs = search needs
-
-same-length : tie.Need-same-length
-same-length c = search needs
-
 returns : tie.Need-returns
 unfolding markFull markFullImage
 returns c =
@@ -49,12 +40,6 @@ write-full-requires : tie.Need-write-full-requires
 write-full-requires c κs =
     let z = c .before .before .before .before .before .before .args in
     accepted-usable (z .image .now) (z .page) (notActive (z .page) .0) [] (passed (c .before)) .whole
-
-marked-full-requires : tie.Need-marked-full-requires
-marked-full-requires c κs = search needs
-
-same-length-2 : tie.Need-same-length-2
-same-length-2 c = search needs
 
 returns-2 : tie.Need-returns-2
 unfolding markFull markFullImage markFullPlan
@@ -70,11 +55,11 @@ pub mark-as-full-spec : {M : Type 1} → statement M
 mark-as-full-spec =
     tie.close
     (tie.spec
-    append-refusal-requires
-    is-done-requires
-    same-length
+    (λ c κs. search needs)
+    (λ c κs. search needs)
+    (λ c. search needs)
     returns
     write-full-requires
-    marked-full-requires
-    same-length-2
+    (λ c κs. search needs)
+    (λ c. search needs)
     returns-2)

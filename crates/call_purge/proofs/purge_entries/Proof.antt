@@ -15,15 +15,6 @@ returns-2 : tie.Need-returns-2
 unfolding purge purgeImage purgePlan run
 returns-2 c = rw (eq-eqb _ _ (c .before .if1 .left), le-ltb _ 126 (c .if2 .taken)) (refl, refl)
 
-held-span-requires : tie.Need-held-span-requires
-held-span-requires c κs = search needs
-
-zero-entries-requires : tie.Need-zero-entries-requires
-zero-entries-requires c κs = search needs
-
-same-length : tie.Need-same-length
-same-length c = search needs
-
 returns-3 : tie.Need-returns-3
 unfolding purge purgeImage purgePlan
 returns-3 c =
@@ -34,4 +25,4 @@ returns-3 c =
 pub purge-entries-spec : {M : Type 1} → statement M
 purge-entries-spec =
     tie.close
-    (tie.spec returns returns-2 held-span-requires zero-entries-requires same-length returns-3)
+    (tie.spec returns returns-2 (λ c κs. search needs) (λ c κs. search needs) (λ c. search needs) returns-3)

@@ -23,9 +23,6 @@ Inv-loop image₀ index span i₀ i-end image i =
 abbrev μ-loop : tie.MeasureT-loop
 μ-loop image₀ index span i₀ i-end image i = i-end - i
 
-add-i-end : tie.Need-add-i-end Inv-loop μ-loop
-add-i-end c = search needs
-
 loop-holds : tie.Need-loop-holds Inv-loop μ-loop
 loop-holds c =
     let start = c .before in
@@ -36,15 +33,6 @@ loop-holds c =
       search needs,
       ap (λ (n : ℕ). run (zeros (args .index) n) (args .image .now)) all,
     )
-
-zero-entry-requires : tie.Need-zero-entry-requires Inv-loop μ-loop
-zero-entry-requires c κs = search needs
-
-add-i : tie.Need-add-i Inv-loop μ-loop
-add-i c = search needs
-
-loop-less : tie.Need-loop-less Inv-loop μ-loop
-loop-less c = search needs
 
 loop-again : tie.Need-loop-again Inv-loop μ-loop
 loop-again c =
@@ -61,9 +49,6 @@ loop-again c =
           ∙ at .loop .inv .3,
     )
 
-same-length : tie.Need-same-length Inv-loop μ-loop
-same-length c = search needs
-
 returns : tie.Need-returns Inv-loop μ-loop
 unfolding units run
 returns c =
@@ -78,11 +63,11 @@ zero-entries-spec =
     (tie.spec
     Inv-loop
     μ-loop
-    add-i-end
+    (λ c. search needs)
     loop-holds
-    zero-entry-requires
-    add-i
-    loop-less
+    (λ c κs. search needs)
+    (λ c. search needs)
+    (λ c. search needs)
     loop-again
-    same-length
+    (λ c. search needs)
     returns)

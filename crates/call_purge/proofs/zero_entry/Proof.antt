@@ -10,18 +10,6 @@ use borrow.Author.Needs.{needs}
 use Rattle.call_purge.proofs.zero_entry.Statement.{statement}
 use Rattle.call_purge.proofs.zero_entry.Tie as tie
 
-entry-address-requires : tie.Need-entry-address-requires
-entry-address-requires c κs = search needs
-
-slice-aggregate-write-aligned : tie.Need-slice-aggregate-write-aligned
-slice-aggregate-write-aligned c = search needs
-
-write-aligned-requires : tie.Need-write-aligned-requires
-write-aligned-requires c κs = search needs
-
-same-length : tie.Need-same-length
-same-length c = search needs
-
 returns : tie.Need-returns
 returns c =
     let written = c .before .before in
@@ -34,8 +22,8 @@ pub zero-entry-spec : {M : Type 1} → statement M
 zero-entry-spec =
     tie.close
     (tie.spec
-    entry-address-requires
-    slice-aggregate-write-aligned
-    write-aligned-requires
-    same-length
+    (λ c κs. search needs)
+    (λ c. search needs)
+    (λ c κs. search needs)
+    (λ c. search needs)
     returns)

@@ -13,23 +13,11 @@ returns : tie.Need-returns
 unfolding purgeNamespace purgeNamespaceImage
 returns c = rw (ne-eqb _ _ (c .if1 .taken)) (refl, refl)
 
-fit-to-use-requires : tie.Need-fit-to-use-requires
-fit-to-use-requires c κs = search needs
-
 returns-2 : tie.Need-returns-2
 unfolding purgeNamespace purgeNamespaceImage
 returns-2 c =
     let called = c .before in
     rw (eq-eqb _ _ (called .before .if1 .left), sym (called .fit-to-use .ensures) ∙ not-true (called .fit-to-use .result) (c .if2 .taken)) (refl, refl)
-
-to-zero-requires : tie.Need-to-zero-requires
-to-zero-requires c κs = search needs
-
-zero-marked-requires : tie.Need-zero-marked-requires
-zero-marked-requires c κs = search needs
-
-same-length : tie.Need-same-length
-same-length c = search needs
 
 returns-3 : tie.Need-returns-3
 unfolding purgeNamespace purgeNamespaceImage purgeNamespacePlan
@@ -47,9 +35,9 @@ purge-erased-for-namespace-spec =
     tie.close
     (tie.spec
     returns
-    fit-to-use-requires
+    (λ c κs. search needs)
     returns-2
-    to-zero-requires
-    zero-marked-requires
-    same-length
+    (λ c κs. search needs)
+    (λ c κs. search needs)
+    (λ c. search needs)
     returns-3)

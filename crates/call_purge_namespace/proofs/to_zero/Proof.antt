@@ -58,30 +58,6 @@ module _ (c : tie.Joined1 Inv-loop μ-loop) where
       ∙ ap (λ (next : Step). next .zeroed ∷ rest next (i + 1)) (sym (w .4)))
       (c .if1 .came)
 
-loop-holds : tie.Need-loop-holds Inv-loop μ-loop
-loop-holds c = search needs
-
-sub-t9 : tie.Need-sub-t9 Inv-loop μ-loop
-sub-t9 c = search needs
-
-state-at-requires : tie.Need-state-at-requires Inv-loop μ-loop
-state-at-requires c κs = search needs
-
-entry-at-requires : tie.Need-entry-at-requires Inv-loop μ-loop
-entry-at-requires c κs = search needs
-
-step-at-requires : tie.Need-step-at-requires Inv-loop μ-loop
-step-at-requires c κs = search needs
-
-array-write-marks : tie.Need-array-write-marks Inv-loop μ-loop
-array-write-marks c = search needs
-
-add-i : tie.Need-add-i Inv-loop μ-loop
-add-i c = search needs
-
-loop-less : tie.Need-loop-less Inv-loop μ-loop
-loop-less c = search needs
-
 loop-again : tie.Need-loop-again Inv-loop μ-loop
 loop-again c =
     let at = c .before .before .before .loop in
@@ -101,13 +77,13 @@ to-zero-spec =
     (tie.spec
     Inv-loop
     μ-loop
-    loop-holds
-    sub-t9
-    state-at-requires
-    entry-at-requires
-    step-at-requires
-    array-write-marks
-    add-i
-    loop-less
+    (λ c. search needs)
+    (λ c. search needs)
+    (λ c κs. search needs)
+    (λ c κs. search needs)
+    (λ c κs. search needs)
+    (λ c. search needs)
+    (λ c. search needs)
+    (λ c. search needs)
     loop-again
     returns)

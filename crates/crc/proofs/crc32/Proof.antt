@@ -9,26 +9,11 @@ use borrow.Author.Needs.{needs}
 use Rattle.crc.proofs.crc32.Statement.{statement}
 use Rattle.crc.proofs.crc32.Tie as tie
 
-mul-whole : tie.Need-mul-whole
-mul-whole c = search needs
-
 slice-aggregate-intake-blocks : tie.Need-slice-aggregate-intake-blocks
 slice-aggregate-intake-blocks c = rw length-take (omega arith)
 
 intake-blocks-requires : tie.Need-intake-blocks-requires
 intake-blocks-requires c κs = rw length-take (omega arith)
-
-sub-intake-tail : tie.Need-sub-intake-tail
-sub-intake-tail c = search needs
-
-part-intake-tail-start : tie.Need-part-intake-tail-start
-part-intake-tail-start c = search needs
-
-part-intake-tail-end : tie.Need-part-intake-tail-end
-part-intake-tail-end c = search needs
-
-intake-tail-requires : tie.Need-intake-tail-requires
-intake-tail-requires c κs = search needs
 
 returns : tie.Need-returns
 unfolding crc32
@@ -47,11 +32,11 @@ pub crc32-spec : {M : Type 1} → statement M
 crc32-spec =
     tie.close
     (tie.spec
-    mul-whole
+    (λ c. search needs)
     slice-aggregate-intake-blocks
     intake-blocks-requires
-    sub-intake-tail
-    part-intake-tail-start
-    part-intake-tail-end
-    intake-tail-requires
+    (λ c. search needs)
+    (λ c. search needs)
+    (λ c. search needs)
+    (λ c κs. search needs)
     returns)

@@ -19,27 +19,6 @@ abbrev μ-loop : tie.MeasureT-loop
 loop-holds : tie.Need-loop-holds Inv-loop μ-loop
 loop-holds c = (refl, search needs, refl)
 
-load-word-requires : tie.Need-load-word-requires Inv-loop μ-loop
-load-word-requires c κs = search needs
-
-add-load-word : tie.Need-add-load-word Inv-loop μ-loop
-add-load-word c = search needs
-
-load-word-requires-2 : tie.Need-load-word-requires-2 Inv-loop μ-loop
-load-word-requires-2 c κs = search needs
-
-shift-64-requires : tie.Need-shift-64-requires Inv-loop μ-loop
-shift-64-requires c κs = search needs
-
-shift-32-requires : tie.Need-shift-32-requires Inv-loop μ-loop
-shift-32-requires c κs = search needs
-
-add-at : tie.Need-add-at Inv-loop μ-loop
-add-at c = search needs
-
-loop-less : tie.Need-loop-less Inv-loop μ-loop
-loop-less c = search needs
-
 loop-again : tie.Need-loop-again Inv-loop μ-loop
 loop-again c =
     let c4 = c .before in
@@ -76,12 +55,12 @@ intake-blocks-spec =
     Inv-loop
     μ-loop
     loop-holds
-    load-word-requires
-    add-load-word
-    load-word-requires-2
-    shift-64-requires
-    shift-32-requires
-    add-at
-    loop-less
+    (λ c κs. search needs)
+    (λ c. search needs)
+    (λ c κs. search needs)
+    (λ c κs. search needs)
+    (λ c κs. search needs)
+    (λ c. search needs)
+    (λ c. search needs)
     loop-again
     returns)

@@ -9,15 +9,6 @@ use borrow.Author.Needs.{needs}
 use Rattle.crc.proofs.intake_byte.Statement.{statement}
 use Rattle.crc.proofs.intake_byte.Tie as tie
 
-wide-requires : tie.Need-wide-requires
-wide-requires c κs = search needs
-
-nibble-4-requires : tie.Need-nibble-4-requires
-nibble-4-requires c κs = search needs
-
-nibble-8-requires : tie.Need-nibble-8-requires
-nibble-8-requires c κs = search needs
-
 returns : tie.Need-returns
 unfolding intake shifts
 returns c =
@@ -28,4 +19,4 @@ returns c =
     ∙ ap (λ (byte : ℕ). intake (c1 .before .args .register) byte) (c1 .wide .ensures .0)
 
 pub intake-byte-spec : {M : Type 1} → statement M
-intake-byte-spec = tie.close (tie.spec wide-requires nibble-4-requires nibble-8-requires returns)
+intake-byte-spec = tie.close (tie.spec (λ c κs. search needs) (λ c κs. search needs) (λ c κs. search needs) returns)

@@ -19,18 +19,6 @@ abbrev μ-loop : tie.MeasureT-loop
 loop-holds : tie.Need-loop-holds Inv-loop μ-loop
 loop-holds c = (search needs, refl)
 
-shared-slice-read-intake-byte : tie.Need-shared-slice-read-intake-byte Inv-loop μ-loop
-shared-slice-read-intake-byte c = search needs
-
-intake-byte-requires : tie.Need-intake-byte-requires Inv-loop μ-loop
-intake-byte-requires c κs = search needs
-
-add-at : tie.Need-add-at Inv-loop μ-loop
-add-at c = search needs
-
-loop-less : tie.Need-loop-less Inv-loop μ-loop
-loop-less c = search needs
-
 loop-again : tie.Need-loop-again Inv-loop μ-loop
 unfolding register
 loop-again c =
@@ -59,9 +47,9 @@ intake-bytes-spec =
     Inv-loop
     μ-loop
     loop-holds
-    shared-slice-read-intake-byte
-    intake-byte-requires
-    add-at
-    loop-less
+    (λ c. search needs)
+    (λ c κs. search needs)
+    (λ c. search needs)
+    (λ c. search needs)
     loop-again
     returns)

@@ -10,30 +10,6 @@ use borrow.Author.Needs.{needs}
 use Rattle.crc.proofs.intake_tail.Statement.{statement}
 use Rattle.crc.proofs.intake_tail.Tie as tie
 
-intake-bytes-requires : tie.Need-intake-bytes-requires
-intake-bytes-requires c κs = search needs
-
-returns : tie.Need-returns
-returns c = search needs
-
-load-word-requires : tie.Need-load-word-requires
-load-word-requires c κs = search needs
-
-shift-32-requires : tie.Need-shift-32-requires
-shift-32-requires c κs = search needs
-
-sub-intake-bytes : tie.Need-sub-intake-bytes
-sub-intake-bytes c = search needs
-
-part-intake-bytes-start : tie.Need-part-intake-bytes-start
-part-intake-bytes-start c = search needs
-
-part-intake-bytes-end : tie.Need-part-intake-bytes-end
-part-intake-bytes-end c = search needs
-
-intake-bytes-requires-2 : tie.Need-intake-bytes-requires-2
-intake-bytes-requires-2 c κs = search needs
-
 returns-2 : tie.Need-returns-2
 returns-2 c =
     let c2 = c .before .before in
@@ -52,12 +28,12 @@ pub intake-tail-spec : {M : Type 1} → statement M
 intake-tail-spec =
     tie.close
     (tie.spec
-    intake-bytes-requires
-    returns
-    load-word-requires
-    shift-32-requires
-    sub-intake-bytes
-    part-intake-bytes-start
-    part-intake-bytes-end
-    intake-bytes-requires-2
+    (λ c κs. search needs)
+    (λ c. search needs)
+    (λ c κs. search needs)
+    (λ c κs. search needs)
+    (λ c. search needs)
+    (λ c. search needs)
+    (λ c. search needs)
+    (λ c κs. search needs)
     returns-2)

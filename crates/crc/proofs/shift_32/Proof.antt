@@ -5,30 +5,6 @@ use borrow.Author.Needs.{needs}
 use Rattle.crc.proofs.shift_32.Statement.{statement}
 use Rattle.crc.proofs.shift_32.Tie as tie
 
-nibble-4-requires : tie.Need-nibble-4-requires
-nibble-4-requires c κs = search needs
-
-nibble-8-requires : tie.Need-nibble-8-requires
-nibble-8-requires c κs = search needs
-
-nibble-12-requires : tie.Need-nibble-12-requires
-nibble-12-requires c κs = search needs
-
-nibble-16-requires : tie.Need-nibble-16-requires
-nibble-16-requires c κs = search needs
-
-nibble-20-requires : tie.Need-nibble-20-requires
-nibble-20-requires c κs = search needs
-
-nibble-24-requires : tie.Need-nibble-24-requires
-nibble-24-requires c κs = search needs
-
-nibble-28-requires : tie.Need-nibble-28-requires
-nibble-28-requires c κs = search needs
-
-nibble-32-requires : tie.Need-nibble-32-requires
-nibble-32-requires c κs = search needs
-
 returns : tie.Need-returns
 returns c =
     let c7 = c .before in
@@ -52,12 +28,12 @@ pub shift-32-spec : {M : Type 1} → statement M
 shift-32-spec =
     tie.close
     (tie.spec
-    nibble-4-requires
-    nibble-8-requires
-    nibble-12-requires
-    nibble-16-requires
-    nibble-20-requires
-    nibble-24-requires
-    nibble-28-requires
-    nibble-32-requires
+    (λ c κs. search needs)
+    (λ c κs. search needs)
+    (λ c κs. search needs)
+    (λ c κs. search needs)
+    (λ c κs. search needs)
+    (λ c κs. search needs)
+    (λ c κs. search needs)
+    (λ c κs. search needs)
     returns)

@@ -5,30 +5,6 @@ use borrow.Author.Needs.{needs}
 use Rattle.crc.proofs.shift_64.Statement.{statement}
 use Rattle.crc.proofs.shift_64.Tie as tie
 
-nibble-36-requires : tie.Need-nibble-36-requires
-nibble-36-requires c κs = search needs
-
-nibble-40-requires : tie.Need-nibble-40-requires
-nibble-40-requires c κs = search needs
-
-nibble-44-requires : tie.Need-nibble-44-requires
-nibble-44-requires c κs = search needs
-
-nibble-48-requires : tie.Need-nibble-48-requires
-nibble-48-requires c κs = search needs
-
-nibble-52-requires : tie.Need-nibble-52-requires
-nibble-52-requires c κs = search needs
-
-nibble-56-requires : tie.Need-nibble-56-requires
-nibble-56-requires c κs = search needs
-
-nibble-60-requires : tie.Need-nibble-60-requires
-nibble-60-requires c κs = search needs
-
-nibble-64-requires : tie.Need-nibble-64-requires
-nibble-64-requires c κs = search needs
-
 returns : tie.Need-returns
 returns c =
     let c7 = c .before in
@@ -52,12 +28,12 @@ pub shift-64-spec : {M : Type 1} → statement M
 shift-64-spec =
     tie.close
     (tie.spec
-    nibble-36-requires
-    nibble-40-requires
-    nibble-44-requires
-    nibble-48-requires
-    nibble-52-requires
-    nibble-56-requires
-    nibble-60-requires
-    nibble-64-requires
+    (λ c κs. search needs)
+    (λ c κs. search needs)
+    (λ c κs. search needs)
+    (λ c κs. search needs)
+    (λ c κs. search needs)
+    (λ c κs. search needs)
+    (λ c κs. search needs)
+    (λ c κs. search needs)
     returns)

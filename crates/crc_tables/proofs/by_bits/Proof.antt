@@ -28,18 +28,6 @@ sumOf eight four two one v = withBit (withBit (withBit (withBit 0 (v % 2) one) (
 sum-spread : (eight four two one v : ℕ) → v < 16 → sumOf eight four two one v ≡ getD (spread (eight ∷ four ∷ two ∷ one ∷ [])) v 0
 sum-spread eight four two one v h = ap (sumOf eight four two one) (sym (zero-add v)) ∙ sym (getD-tabulate (sumOf eight four two one) 0 16 v h)
 
-with-bit-requires : tie.Need-with-bit-requires
-with-bit-requires c κs = search needs
-
-with-bit-requires-2 : tie.Need-with-bit-requires-2
-with-bit-requires-2 c κs = search needs
-
-with-bit-requires-3 : tie.Need-with-bit-requires-3
-with-bit-requires-3 c κs = search needs
-
-with-bit-requires-4 : tie.Need-with-bit-requires-4
-with-bit-requires-4 c κs = search needs
-
 returns : tie.Need-returns
 returns c =
     let c3 = c .before in
@@ -58,8 +46,8 @@ pub by-bits-spec : {M : Type 1} → statement M
 by-bits-spec =
     tie.close
     (tie.spec
-    with-bit-requires
-    with-bit-requires-2
-    with-bit-requires-3
-    with-bit-requires-4
+    (λ c κs. search needs)
+    (λ c κs. search needs)
+    (λ c κs. search needs)
+    (λ c κs. search needs)
     returns)

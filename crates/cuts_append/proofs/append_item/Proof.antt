@@ -4,21 +4,9 @@ use Rattle.cuts_append.specs.Cutting.{appended, appendedImage}
 use Rattle.cuts_append.proofs.append_item.Statement.{statement}
 use Rattle.cuts_append.proofs.append_item.Tie as tie
 
-write-item-requires : tie.Need-write-item-requires
-write-item-requires c κs = search needs
-
-same-length : tie.Need-same-length
-same-length c = search needs
-
 returns : tie.Need-returns
 unfolding appended appendedImage
 returns c = rw (c .before .before .before .before .before .if1 .taken) (c .before .before .write-item .ensures)
-
-write-variable-sized-item-requires : tie.Need-write-variable-sized-item-requires
-write-variable-sized-item-requires c κs = search needs
-
-same-length-2 : tie.Need-same-length-2
-same-length-2 c = search needs
 
 returns-2 : tie.Need-returns-2
 unfolding appended appendedImage
@@ -28,9 +16,9 @@ pub append-item-spec : {M : Type 1} → statement M
 append-item-spec =
     tie.close
     (tie.spec
-    write-item-requires
-    same-length
+    (λ c κs. search needs)
+    (λ c. search needs)
     returns
-    write-variable-sized-item-requires
-    same-length-2
+    (λ c κs. search needs)
+    (λ c. search needs)
     returns-2)

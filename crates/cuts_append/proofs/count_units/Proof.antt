@@ -33,27 +33,12 @@ number c =
 loop-holds : tie.Need-loop-holds Inv-loop μ-loop
 loop-holds c = (search needs, refl)
 
-slice-aggregate-append-item : tie.Need-slice-aggregate-append-item Inv-loop μ-loop
-slice-aggregate-append-item c = search needs
-
-append-item-requires : tie.Need-append-item-requires Inv-loop μ-loop
-append-item-requires c κs = search needs
-
-number-of-requires : tie.Need-number-of-requires Inv-loop μ-loop
-number-of-requires c κs = search needs
-
 returns : tie.Need-returns Inv-loop μ-loop
 returns c =
     let at = c .before .before .before .before .before .before .before .before in
     let n = at .loop .n in
     let whole = ne-eqb _ 11 (λ e. c .if1 .taken (number (c .before) ∙ e)) in
     (sym (first-here (stoppedAt at) n (1100 - n) (1100 - (n + 1)) (omega arith) whole) ∙ at .loop .inv .1, omega arith)
-
-add-n : tie.Need-add-n Inv-loop μ-loop
-add-n c = search needs
-
-loop-less : tie.Need-loop-less Inv-loop μ-loop
-loop-less c = search needs
 
 loop-again : tie.Need-loop-again Inv-loop μ-loop
 loop-again c =
@@ -76,11 +61,11 @@ count-units-spec =
     Inv-loop
     μ-loop
     loop-holds
-    slice-aggregate-append-item
-    append-item-requires
-    number-of-requires
+    (λ c. search needs)
+    (λ c κs. search needs)
+    (λ c κs. search needs)
     returns
-    add-n
-    loop-less
+    (λ c. search needs)
+    (λ c. search needs)
     loop-again
     returns-2)

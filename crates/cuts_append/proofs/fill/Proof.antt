@@ -20,18 +20,6 @@ loop-holds : tie.Need-loop-holds Inv-loop μ-loop
 unfolding curve
 loop-holds c = (search needs, search needs, refl)
 
-cast-payload : tie.Need-cast-payload Inv-loop μ-loop
-cast-payload c = search needs
-
-slice-write-payload : tie.Need-slice-write-payload Inv-loop μ-loop
-slice-write-payload c = search needs
-
-add-i : tie.Need-add-i Inv-loop μ-loop
-add-i c = search needs
-
-loop-less : tie.Need-loop-less Inv-loop μ-loop
-loop-less c = search needs
-
 loop-again : tie.Need-loop-again Inv-loop μ-loop
 unfolding curve
 loop-again c =
@@ -41,9 +29,6 @@ loop-again c =
       simp length-set (l .inv .1),
       rw (add-one (l .i), take-suc-set (l .payload) (l .i) (l .i % 251) inside, l .inv .2),
     )
-
-same-length : tie.Need-same-length Inv-loop μ-loop
-same-length c = search needs
 
 returns : tie.Need-returns Inv-loop μ-loop
 returns c =
@@ -58,10 +43,10 @@ fill-spec =
     Inv-loop
     μ-loop
     loop-holds
-    cast-payload
-    slice-write-payload
-    add-i
-    loop-less
+    (λ c. search needs)
+    (λ c. search needs)
+    (λ c. search needs)
+    (λ c. search needs)
     loop-again
-    same-length
+    (λ c. search needs)
     returns)

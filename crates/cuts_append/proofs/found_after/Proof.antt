@@ -5,14 +5,8 @@ use Rattle.cuts_append.specs.Cutting.{foundIn}
 use Rattle.cuts_append.proofs.found_after.Statement.{statement}
 use Rattle.cuts_append.proofs.found_after.Tie as tie
 
-cut-after-requires : tie.Need-cut-after-requires
-cut-after-requires c κs = search needs
-
-found-in-requires : tie.Need-found-in-requires
-found-in-requires c κs = search needs
-
 returns : tie.Need-returns
 returns c = c .found-in .ensures ∙ ap (foundIn (c .before .before .before .args .before) (c .before .before .before .args .after)) (c .before .cut-after .ensures)
 
 pub found-after-spec : {M : Type 1} → statement M
-found-after-spec = tie.close (tie.spec cut-after-requires found-in-requires returns)
+found-after-spec = tie.close (tie.spec (λ c κs. search needs) (λ c κs. search needs) returns)

@@ -5,20 +5,11 @@ use borrow.Author.Tests.{not-true, not-false}
 use Rattle.cuts_append.proofs.found_in.Statement.{statement}
 use Rattle.cuts_append.proofs.found_in.Tie as tie
 
-is-done-requires : tie.Need-is-done-requires
-is-done-requires c κs = search needs
-
 returns : tie.Need-returns
 returns c = rw (sym (c .before .is-done .ensures) ∙ not-true _ (c .if1 .taken))
 
-same-sector-requires : tie.Need-same-sector-requires
-same-sector-requires c κs = search needs
-
 returns-2 : tie.Need-returns-2
 returns-2 c = rw (sym (c .before .before .before .before .is-done .ensures) ∙ not-false _ (c .before .before .before .if1 .left), sym (c .before .same-sector .ensures) ∙ c .if2 .taken)
-
-same-sector-requires-2 : tie.Need-same-sector-requires-2
-same-sector-requires-2 c κs = search needs
 
 returns-3 : tie.Need-returns-3
 returns-3 c = rw (sym (c .before .before .before .before .before .before .is-done .ensures) ∙ not-false _ (c .before .before .before .before .before .if1 .left), sym (c .before .before .before .same-sector .ensures) ∙ c .before .before .if2 .left, sym (c .before .same-sector2 .ensures) ∙ c .if3 .taken)
@@ -30,10 +21,10 @@ pub found-in-spec : {M : Type 1} → statement M
 found-in-spec =
     tie.close
     (tie.spec
-    is-done-requires
+    (λ c κs. search needs)
     returns
-    same-sector-requires
+    (λ c κs. search needs)
     returns-2
-    same-sector-requires-2
+    (λ c κs. search needs)
     returns-3
     returns-4)

@@ -42,20 +42,8 @@ tested c t e =
     same-of (wanted .result) (next .result) _ _ (c .same-found .result) t
     (wanted .ensures) (next .ensures) (c .same-found .ensures) e
 
-found-after-requires : tie.Need-found-after-requires Inv-loop μ-loop
-found-after-requires c κs = search needs
-
 loop-holds : tie.Need-loop-holds Inv-loop μ-loop
 loop-holds c = (search needs, (λ h. h), alike-one _ _, refl)
-
-add-found-after : tie.Need-add-found-after Inv-loop μ-loop
-add-found-after c = search needs
-
-found-after-requires-2 : tie.Need-found-after-requires-2 Inv-loop μ-loop
-found-after-requires-2 c κs = search needs
-
-same-found-requires : tie.Need-same-found-requires Inv-loop μ-loop
-same-found-requires c κs = search needs
 
 returns : tie.Need-returns Inv-loop μ-loop
 returns c =
@@ -69,12 +57,6 @@ returns c =
         sym (first-here (alikeAt at) (l .n) (last - l .n) (last - (l .n + 1)) (omega arith) differs) ∙ l .inv .3,
       ),
     )
-
-add-n : tie.Need-add-n Inv-loop μ-loop
-add-n c = search needs
-
-loop-less : tie.Need-loop-less Inv-loop μ-loop
-loop-less c = search needs
 
 loop-again : tie.Need-loop-again Inv-loop μ-loop
 loop-again c =
@@ -103,13 +85,13 @@ last-alike-spec =
     (tie.spec
     Inv-loop
     μ-loop
-    found-after-requires
+    (λ c κs. search needs)
     loop-holds
-    add-found-after
-    found-after-requires-2
-    same-found-requires
+    (λ c. search needs)
+    (λ c κs. search needs)
+    (λ c κs. search needs)
     returns
-    add-n
-    loop-less
+    (λ c. search needs)
+    (λ c. search needs)
     loop-again
     returns-2)

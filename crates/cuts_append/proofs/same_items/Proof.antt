@@ -10,11 +10,8 @@ returns c = rw (ne-eqb _ _ (c .if1 .taken))
 returns-2 : tie.Need-returns-2
 returns-2 c = rw (eq-eqb _ _ (c .before .before .before .if1 .left), ne-eqb _ _ (c .if2 .taken))
 
-same-list-requires : tie.Need-same-list-requires
-same-list-requires c κs = search needs
-
 returns-3 : tie.Need-returns-3
 returns-3 c = rw (eq-eqb _ _ (c .before .before .before .before .before .before .if1 .left), eq-eqb _ _ (c .before .before .before .if2 .left)) (c .same-list .ensures)
 
 pub same-items-spec : {M : Type 1} → statement M
-same-items-spec = tie.close (tie.spec returns returns-2 same-list-requires returns-3)
+same-items-spec = tie.close (tie.spec returns returns-2 (λ c κs. search needs) returns-3)

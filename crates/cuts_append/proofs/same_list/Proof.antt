@@ -19,29 +19,11 @@ abbrev μ-loop : tie.MeasureT-loop
 loop-holds : tie.Need-loop-holds Inv-loop μ-loop
 loop-holds c = (search needs, refl)
 
-mul-one : tie.Need-mul-one Inv-loop μ-loop
-mul-one c = search needs
-
-array-copy-out-one : tie.Need-array-copy-out-one Inv-loop μ-loop
-array-copy-out-one c = search needs
-
-mul-other : tie.Need-mul-other Inv-loop μ-loop
-mul-other c = search needs
-
-array-copy-out-other : tie.Need-array-copy-out-other Inv-loop μ-loop
-array-copy-out-other c = search needs
-
 returns : tie.Need-returns Inv-loop μ-loop
 returns c = let at = c .before .before .before .before .before .before in let start = at .before in rw (same-list-drop (start .args .t1) (start .args .t2) (at .loop .i) (omega arith) (omega arith), ne-eqb _ _ (c .if1 .taken)) at (at .loop .inv .1)
 
 returns-2 : tie.Need-returns-2 Inv-loop μ-loop
 returns-2 c = let at = c .before .before .before .before .before .before .before .before .before in let start = at .before in rw (same-list-drop (start .args .t1) (start .args .t2) (at .loop .i) (omega arith) (omega arith), eq-eqb _ _ (c .before .before .before .if1 .left), ne-eqb _ _ (c .if2 .taken)) at (at .loop .inv .1)
-
-add-i : tie.Need-add-i Inv-loop μ-loop
-add-i c = search needs
-
-loop-less : tie.Need-loop-less Inv-loop μ-loop
-loop-less c = search needs
 
 loop-again : tie.Need-loop-again Inv-loop μ-loop
 loop-again c = let at = c .before .before .before .before .before .before .before .before .before in let start = at .before in (omega arith, rw (same-list-drop (start .args .t1) (start .args .t2) (at .loop .i) (omega arith) (omega arith), eq-eqb _ _ (c .before .before .before .if1 .left), eq-eqb _ _ (c .if2 .left)) at (at .loop .inv .1))
@@ -56,13 +38,13 @@ same-list-spec =
     Inv-loop
     μ-loop
     loop-holds
-    mul-one
-    array-copy-out-one
-    mul-other
-    array-copy-out-other
+    (λ c. search needs)
+    (λ c. search needs)
+    (λ c. search needs)
+    (λ c. search needs)
     returns
     returns-2
-    add-i
-    loop-less
+    (λ c. search needs)
+    (λ c. search needs)
     loop-again
     returns-3)

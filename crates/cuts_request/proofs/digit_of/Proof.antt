@@ -10,9 +10,6 @@ returns c =
     let byte = c .before .args .byte in
     rw (lt-ltb byte 0x30 (omega arith))
 
-wide-requires : tie.Need-wide-requires
-wide-requires c κs = search needs
-
 returns-2 : tie.Need-returns-2
 returns-2 c =
     let byte = c .before .before .before .args .byte in
@@ -22,12 +19,6 @@ returns-3 : tie.Need-returns-3
 returns-3 c =
     let byte = c .before .before .before .args .byte in
     rw (le-ltb byte 0x30 (omega arith), le-ltb byte 0x3A (omega arith), lt-ltb byte 0x41 (omega arith))
-
-sub-wide : tie.Need-sub-wide
-sub-wide c = search needs
-
-wide-requires-2 : tie.Need-wide-requires-2
-wide-requires-2 c κs = search needs
 
 returns-4 : tie.Need-returns-4
 returns-4 c =
@@ -49,12 +40,6 @@ returns-5 c =
       le-ltb byte 0x47 (omega arith),
       lt-ltb byte 0x61 (omega arith),
     )
-
-sub-wide-2 : tie.Need-sub-wide-2
-sub-wide-2 c = search needs
-
-wide-requires-3 : tie.Need-wide-requires-3
-wide-requires-3 c κs = search needs
 
 returns-6 : tie.Need-returns-6
 returns-6 c =
@@ -85,14 +70,14 @@ digit-of-spec =
     tie.close
     (tie.spec
     returns
-    wide-requires
+    (λ c κs. search needs)
     returns-2
     returns-3
-    sub-wide
-    wide-requires-2
+    (λ c. search needs)
+    (λ c κs. search needs)
     returns-4
     returns-5
-    sub-wide-2
-    wide-requires-3
+    (λ c. search needs)
+    (λ c κs. search needs)
     returns-6
     returns-7)

@@ -17,23 +17,11 @@ Inv-loop base most text value₀ i₀ value i =
 abbrev μ-loop : tie.MeasureT-loop
 μ-loop base most text value₀ i₀ value i = length text - i
 
-no-number-requires : tie.Need-no-number-requires Inv-loop μ-loop
-no-number-requires c κs = search needs
-
 returns : tie.Need-returns Inv-loop μ-loop
 returns c = rw (c .before .if1 .taken) (c .no-number .ensures)
 
 loop-holds : tie.Need-loop-holds Inv-loop μ-loop
 loop-holds c = (search needs, omega arith, rw (ne-eqb _ 0 (c .if1 .left)))
-
-shared-slice-read-digit-of : tie.Need-shared-slice-read-digit-of Inv-loop μ-loop
-shared-slice-read-digit-of c = search needs
-
-digit-of-requires : tie.Need-digit-of-requires Inv-loop μ-loop
-digit-of-requires c κs = search needs
-
-no-number-requires-2 : tie.Need-no-number-requires-2 Inv-loop μ-loop
-no-number-requires-2 c κs = search needs
 
 returns-2 : tie.Need-returns-2 Inv-loop μ-loop
 returns-2 c =
@@ -44,9 +32,6 @@ returns-2 c =
     c .no-number2 .ensures ∙ sym (digits-none (z .base) (z .most) (l .value) (z .text .now) (l .i) (digit .result)
     (omega arith) (digit .ensures) (c .before .if2 .taken)) ∙ l .inv .2
 
-no-number-requires-3 : tie.Need-no-number-requires-3 Inv-loop μ-loop
-no-number-requires-3 c κs = search needs
-
 returns-3 : tie.Need-returns-3 Inv-loop μ-loop
 returns-3 c =
     let at = c .before .before .before .before .before .before in
@@ -55,12 +40,6 @@ returns-3 c =
     let digit = c .before .before .before .digit-of in
     c .no-number3 .ensures ∙ sym (digits-over (z .base) (z .most) (l .value) (z .text .now) (l .i) (digit .result)
     (omega arith) (digit .ensures) (omega arith) (omega arith)) ∙ l .inv .2
-
-div-if4 : tie.Need-div-if4 Inv-loop μ-loop
-div-if4 c = search needs
-
-no-number-requires-4 : tie.Need-no-number-requires-4 Inv-loop μ-loop
-no-number-requires-4 c κs = search needs
 
 returns-4 : tie.Need-returns-4 Inv-loop μ-loop
 returns-4 c =
@@ -90,12 +69,6 @@ add-value c =
     let fits = digit-fits (z .base) (z .most) (l .value) (digit .result) (omega arith) (omega arith) (c .if4 .left) in
     omega arith
 
-add-i : tie.Need-add-i Inv-loop μ-loop
-add-i c = search needs
-
-loop-less : tie.Need-loop-less Inv-loop μ-loop
-loop-less c = search needs
-
 loop-again : tie.Need-loop-again Inv-loop μ-loop
 loop-again c =
     let at = c .before .before .before .before .before .before in
@@ -122,21 +95,21 @@ digits-of-spec =
     (tie.spec
     Inv-loop
     μ-loop
-    no-number-requires
+    (λ c κs. search needs)
     returns
     loop-holds
-    shared-slice-read-digit-of
-    digit-of-requires
-    no-number-requires-2
+    (λ c. search needs)
+    (λ c κs. search needs)
+    (λ c κs. search needs)
     returns-2
-    no-number-requires-3
+    (λ c κs. search needs)
     returns-3
-    div-if4
-    no-number-requires-4
+    (λ c. search needs)
+    (λ c κs. search needs)
     returns-4
     mul-value
     add-value
-    add-i
-    loop-less
+    (λ c. search needs)
+    (λ c. search needs)
     loop-again
     returns-5)

@@ -19,12 +19,6 @@ use Rattle.cuts_request.proofs.key_bytes.Tie as tie
 key-short : (text : List ℕ) → isKey text ≡ true → length text < 16
 key-short text e = ltb-true _ 16 (and-right (ltb 0 (length text)) _ e)
 
-is-key-requires : tie.Need-is-key-requires
-is-key-requires c κs = search needs
-
-slice-aggregate-copy : tie.Need-slice-aggregate-copy
-slice-aggregate-copy c = search needs
-
 copy-requires : tie.Need-copy-requires
 copy-requires c κs =
     let text = c .before .before .before .before .args .text .now in
@@ -42,4 +36,4 @@ returns-2 c = rw (sym (c .before .is-key .ensures) ∙ c .if1 .left)
 
 pub key-bytes-spec : {M : Type 1} → statement M
 key-bytes-spec =
-    tie.close (tie.spec is-key-requires slice-aggregate-copy copy-requires returns returns-2)
+    tie.close (tie.spec (λ c κs. search needs) (λ c. search needs) copy-requires returns returns-2)

@@ -8,20 +8,11 @@ use Rattle.cuts_request.proofs.Laws.{typeOf-most}
 use Rattle.cuts_request.proofs.largest_of.Statement.{statement}
 use Rattle.cuts_request.proofs.largest_of.Tie as tie
 
-type-of-requires : tie.Need-type-of-requires
-type-of-requires c κs = search needs
-
 cast-value-width : tie.Need-cast-value-width
 cast-value-width c =
     let small = typeOf-most (c .before .before .before .args .kind .now) in
     let same = ap (λ (kind : Number). kind .value) (c .before .type-of .ensures) in
     omega arith
-
-value-width-requires : tie.Need-value-width-requires
-value-width-requires c κs = search needs
-
-most-of-requires : tie.Need-most-of-requires
-most-of-requires c κs = search needs
 
 returns : tie.Need-returns
 returns c =
@@ -31,4 +22,4 @@ returns c =
 pub largest-of-spec : {M : Type 1} → statement M
 largest-of-spec =
     tie.close
-    (tie.spec type-of-requires cast-value-width value-width-requires most-of-requires returns)
+    (tie.spec (λ c κs. search needs) cast-value-width (λ c κs. search needs) (λ c κs. search needs) returns)

@@ -17,9 +17,6 @@ use Rattle.cuts_request.proofs.number_of.Tie as tie
 hex-long : (text : List ℕ) → isHex text ≡ true → 1 < length text
 hex-long text e = ltb-true 1 _ (and-left _ _ e)
 
-is-hex-requires : tie.Need-is-hex-requires
-is-hex-requires c κs = search needs
-
 sub-digits-of : tie.Need-sub-digits-of
 sub-digits-of c =
     let long = hex-long (c .before .before .before .args .text .now) (sym (c .before .is-hex .ensures) ∙ c .if1 .taken) in
@@ -30,12 +27,6 @@ part-digits-of-start c =
     let long = hex-long (c .before .before .before .args .text .now) (sym (c .before .is-hex .ensures) ∙ c .if1 .taken) in
     omega arith
 
-part-digits-of-end : tie.Need-part-digits-of-end
-part-digits-of-end c = search needs
-
-digits-of-requires : tie.Need-digits-of-requires
-digits-of-requires c κs = search needs
-
 returns : tie.Need-returns
 returns c =
     let z = c .before .before .before .before .before .args in
@@ -44,9 +35,6 @@ returns c =
     rw (sym (c .before .before .before .is-hex .ensures) ∙ c .before .before .if1 .taken)
     (c .digits-of .ensures ∙ ap (digitsOf 16 (z .most)) behind)
 
-digits-of-requires-2 : tie.Need-digits-of-requires-2
-digits-of-requires-2 c κs = search needs
-
 returns-2 : tie.Need-returns-2
 returns-2 c = rw (sym (c .before .before .is-hex .ensures) ∙ c .before .if1 .left) (c .digits-of2 .ensures)
 
@@ -54,11 +42,11 @@ pub number-of-spec : {M : Type 1} → statement M
 number-of-spec =
     tie.close
     (tie.spec
-    is-hex-requires
+    (λ c κs. search needs)
     sub-digits-of
     part-digits-of-start
-    part-digits-of-end
-    digits-of-requires
+    (λ c. search needs)
+    (λ c κs. search needs)
     returns
-    digits-of-requires-2
+    (λ c κs. search needs)
     returns-2)

@@ -9,15 +9,9 @@ returns : tie.Need-returns
 unfolding orNamed
 returns c = search needs
 
-same-requires : tie.Need-same-requires
-same-requires c κs = search needs
-
 returns-2 : tie.Need-returns-2
 unfolding orNamed
 returns-2 c = rw (c .before .before .if1 .left, sym (c .before .same .ensures) ∙ c .if2 .taken)
-
-no-number-requires : tie.Need-no-number-requires
-no-number-requires c κs = search needs
 
 returns-3 : tie.Need-returns-3
 unfolding orNamed
@@ -25,4 +19,4 @@ returns-3 c = rw (c .before .before .before .if1 .left, sym (c .before .before .
 
 pub or-named-spec : {M : Type 1} → statement M
 or-named-spec =
-    tie.close (tie.spec returns same-requires returns-2 no-number-requires returns-3)
+    tie.close (tie.spec returns (λ c κs. search needs) returns-2 (λ c κs. search needs) returns-3)

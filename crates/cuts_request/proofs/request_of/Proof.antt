@@ -58,24 +58,12 @@ module _ (found space typed named got read : Number) (key : List ℕ) (short : B
 abbrev readAs : List ℕ → List ℕ → Number
 readAs kind value = valueOf (typeOf kind .value) value
 
-number-of-requires : tie.Need-number-of-requires
-number-of-requires c κs = search needs
-
-refused-requires : tie.Need-refused-requires
-refused-requires c κs = search needs
-
 returns : tie.Need-returns
 returns c =
     let space = c .before .before .before in
     let z = space .before .before .before .before .before .args in
     wrong-namespace _ _ noNumber (typeOf (z .kind .now)) noNumber (readAs (z .kind .now) (z .value .now)) (z .key .now) false
     (space .number-of .ensures) (c .before .if1 .taken) (c .refused .ensures)
-
-type-of-requires : tie.Need-type-of-requires
-type-of-requires c κs = search needs
-
-refused-requires-2 : tie.Need-refused-requires-2
-refused-requires-2 c κs = search needs
 
 returns-2 : tie.Need-returns-2
 returns-2 c =
@@ -85,12 +73,6 @@ returns-2 c =
     let z = space .before .before .before .before .before .args in
     wrong-type _ _ _ _ noNumber (readAs (z .kind .now) (z .value .now)) (z .key .now) false
     (space .number-of .ensures) (first .if1 .left) (typed .type-of .ensures) (c .before .if2 .taken) (c .refused2 .ensures)
-
-is-key-requires : tie.Need-is-key-requires
-is-key-requires c κs = search needs
-
-refused-requires-3 : tie.Need-refused-requires-3
-refused-requires-3 c κs = search needs
 
 returns-3 : tie.Need-returns-3
 returns-3 c =
@@ -111,12 +93,6 @@ cast-byte c =
     let same = ap (λ (kind : Number). kind .value) (typed .type-of .ensures) in
     omega arith
 
-value-of-requires : tie.Need-value-of-requires
-value-of-requires c κs = search needs
-
-refused-requires-4 : tie.Need-refused-requires-4
-refused-requires-4 c κs = search needs
-
 returns-4 : tie.Need-returns-4
 returns-4 c =
     let got = c .before .before .before in
@@ -132,18 +108,6 @@ returns-4 c =
     (third .if3 .left)
     (got .value-of .ensures ∙ ap (λ (kind : Number). valueOf (kind .value) (z .value .now)) (typed .type-of .ensures))
     (c .before .if4 .taken) (c .refused4 .ensures)
-
-kind-of-requires : tie.Need-kind-of-requires
-kind-of-requires c κs = search needs
-
-key-bytes-requires : tie.Need-key-bytes-requires
-key-bytes-requires c κs = search needs
-
-value-width-requires : tie.Need-value-width-requires
-value-width-requires c κs = search needs
-
-value-bytes-requires : tie.Need-value-bytes-requires
-value-bytes-requires c κs = search needs
 
 cast-t19 : tie.Need-cast-t19
 cast-t19 c =
@@ -180,22 +144,22 @@ pub request-of-spec : {M : Type 1} → statement M
 request-of-spec =
     tie.close
     (tie.spec
-    number-of-requires
-    refused-requires
+    (λ c κs. search needs)
+    (λ c κs. search needs)
     returns
-    type-of-requires
-    refused-requires-2
+    (λ c κs. search needs)
+    (λ c κs. search needs)
     returns-2
-    is-key-requires
-    refused-requires-3
+    (λ c κs. search needs)
+    (λ c κs. search needs)
     returns-3
     cast-byte
-    value-of-requires
-    refused-requires-4
+    (λ c κs. search needs)
+    (λ c κs. search needs)
     returns-4
-    kind-of-requires
-    key-bytes-requires
-    value-width-requires
-    value-bytes-requires
+    (λ c κs. search needs)
+    (λ c κs. search needs)
+    (λ c κs. search needs)
+    (λ c κs. search needs)
     cast-t19
     returns-5)

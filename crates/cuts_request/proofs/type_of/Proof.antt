@@ -13,87 +13,6 @@ behind : {result found wanted : Number} (text name : List ℕ) (byte : ℕ) → 
     → result ≡ orNamed wanted text name byte
 behind text name byte e f = e ∙ ap (λ (found : Number). orNamed found text name byte) f
 
-number-of-requires : tie.Need-number-of-requires
-number-of-requires c κs = search needs
-
-slice-aggregate-or-named : tie.Need-slice-aggregate-or-named
-slice-aggregate-or-named c = search needs
-
-or-named-requires : tie.Need-or-named-requires
-or-named-requires c κs = search needs
-
-slice-aggregate-or-named-2 : tie.Need-slice-aggregate-or-named-2
-slice-aggregate-or-named-2 c = search needs
-
-or-named-requires-2 : tie.Need-or-named-requires-2
-or-named-requires-2 c κs = search needs
-
-slice-aggregate-or-named-3 : tie.Need-slice-aggregate-or-named-3
-slice-aggregate-or-named-3 c = search needs
-
-or-named-requires-3 : tie.Need-or-named-requires-3
-or-named-requires-3 c κs = search needs
-
-slice-aggregate-or-named-4 : tie.Need-slice-aggregate-or-named-4
-slice-aggregate-or-named-4 c = search needs
-
-or-named-requires-4 : tie.Need-or-named-requires-4
-or-named-requires-4 c κs = search needs
-
-slice-aggregate-or-named-5 : tie.Need-slice-aggregate-or-named-5
-slice-aggregate-or-named-5 c = search needs
-
-or-named-requires-5 : tie.Need-or-named-requires-5
-or-named-requires-5 c κs = search needs
-
-slice-aggregate-or-named-6 : tie.Need-slice-aggregate-or-named-6
-slice-aggregate-or-named-6 c = search needs
-
-or-named-requires-6 : tie.Need-or-named-requires-6
-or-named-requires-6 c κs = search needs
-
-slice-aggregate-or-named-7 : tie.Need-slice-aggregate-or-named-7
-slice-aggregate-or-named-7 c = search needs
-
-or-named-requires-7 : tie.Need-or-named-requires-7
-or-named-requires-7 c κs = search needs
-
-slice-aggregate-or-named-8 : tie.Need-slice-aggregate-or-named-8
-slice-aggregate-or-named-8 c = search needs
-
-or-named-requires-8 : tie.Need-or-named-requires-8
-or-named-requires-8 c κs = search needs
-
-slice-aggregate-or-named-9 : tie.Need-slice-aggregate-or-named-9
-slice-aggregate-or-named-9 c = search needs
-
-or-named-requires-9 : tie.Need-or-named-requires-9
-or-named-requires-9 c κs = search needs
-
-slice-aggregate-or-named-10 : tie.Need-slice-aggregate-or-named-10
-slice-aggregate-or-named-10 c = search needs
-
-or-named-requires-10 : tie.Need-or-named-requires-10
-or-named-requires-10 c κs = search needs
-
-slice-aggregate-or-named-11 : tie.Need-slice-aggregate-or-named-11
-slice-aggregate-or-named-11 c = search needs
-
-or-named-requires-11 : tie.Need-or-named-requires-11
-or-named-requires-11 c κs = search needs
-
-slice-aggregate-or-named-12 : tie.Need-slice-aggregate-or-named-12
-slice-aggregate-or-named-12 c = search needs
-
-or-named-requires-12 : tie.Need-or-named-requires-12
-or-named-requires-12 c κs = search needs
-
-slice-aggregate-or-named-13 : tie.Need-slice-aggregate-or-named-13
-slice-aggregate-or-named-13 c = search needs
-
-or-named-requires-13 : tie.Need-or-named-requires-13
-or-named-requires-13 c κs = search needs
-
 returns : tie.Need-returns
 returns c =
     let index = c .before .before in
@@ -128,31 +47,31 @@ pub type-of-spec : {M : Type 1} → statement M
 type-of-spec =
     tie.close
     (tie.spec
-    number-of-requires
-    slice-aggregate-or-named
-    or-named-requires
-    slice-aggregate-or-named-2
-    or-named-requires-2
-    slice-aggregate-or-named-3
-    or-named-requires-3
-    slice-aggregate-or-named-4
-    or-named-requires-4
-    slice-aggregate-or-named-5
-    or-named-requires-5
-    slice-aggregate-or-named-6
-    or-named-requires-6
-    slice-aggregate-or-named-7
-    or-named-requires-7
-    slice-aggregate-or-named-8
-    or-named-requires-8
-    slice-aggregate-or-named-9
-    or-named-requires-9
-    slice-aggregate-or-named-10
-    or-named-requires-10
-    slice-aggregate-or-named-11
-    or-named-requires-11
-    slice-aggregate-or-named-12
-    or-named-requires-12
-    slice-aggregate-or-named-13
-    or-named-requires-13
+    (λ c κs. search needs)
+    (λ c. search needs)
+    (λ c κs. search needs)
+    (λ c. search needs)
+    (λ c κs. search needs)
+    (λ c. search needs)
+    (λ c κs. search needs)
+    (λ c. search needs)
+    (λ c κs. search needs)
+    (λ c. search needs)
+    (λ c κs. search needs)
+    (λ c. search needs)
+    (λ c κs. search needs)
+    (λ c. search needs)
+    (λ c κs. search needs)
+    (λ c. search needs)
+    (λ c κs. search needs)
+    (λ c. search needs)
+    (λ c κs. search needs)
+    (λ c. search needs)
+    (λ c κs. search needs)
+    (λ c. search needs)
+    (λ c κs. search needs)
+    (λ c. search needs)
+    (λ c κs. search needs)
+    (λ c. search needs)
+    (λ c κs. search needs)
     returns)

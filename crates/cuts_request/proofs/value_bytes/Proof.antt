@@ -32,25 +32,13 @@ narrowed width value n all result h e m copied =
       drop-replicate {A = ℕ} width 8 0xFF,
     )
 
-eight-bytes-requires : tie.Need-eight-bytes-requires
-eight-bytes-requires c κs = search needs
-
-wide-index-requires : tie.Need-wide-index-requires
-wide-index-requires c κs = search needs
-
 returns : tie.Need-returns
 returns c =
     let z = c .before .before .before .args in
     past (z .width) (z .value) (omega arith) (c .before .before .eight-bytes .ensures)
 
-array-share-prefix-all : tie.Need-array-share-prefix-all
-array-share-prefix-all c = search needs
-
 slice-aggregate-copy : tie.Need-slice-aggregate-copy
 slice-aggregate-copy c = sym (length-take-le _ _ (search needs))
-
-slice-aggregate-copy-2 : tie.Need-slice-aggregate-copy-2
-slice-aggregate-copy-2 c = search needs
 
 copy-requires : tie.Need-copy-requires
 copy-requires c κs = rw (length-take) (omega arith)
@@ -67,11 +55,11 @@ pub value-bytes-spec : {M : Type 1} → statement M
 value-bytes-spec =
     tie.close
     (tie.spec
-    eight-bytes-requires
-    wide-index-requires
+    (λ c κs. search needs)
+    (λ c κs. search needs)
     returns
-    array-share-prefix-all
+    (λ c. search needs)
     slice-aggregate-copy
-    slice-aggregate-copy-2
+    (λ c. search needs)
     copy-requires
     returns-2)

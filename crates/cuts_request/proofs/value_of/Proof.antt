@@ -7,22 +7,10 @@ use Rattle.cuts_request.specs.Words.{numberOf, mostOf}
 use Rattle.cuts_request.proofs.value_of.Statement.{statement}
 use Rattle.cuts_request.proofs.value_of.Tie as tie
 
-kind-of-requires : tie.Need-kind-of-requires
-kind-of-requires c κs = search needs
-
 returns : tie.Need-returns
 returns c =
     let payload = sym (ap (λ (kind : Kind). kind .payload) (c .before .kind-of .ensures)) in
     rw (payload, c .if1 .taken)
-
-value-width-requires : tie.Need-value-width-requires
-value-width-requires c κs = search needs
-
-most-of-requires : tie.Need-most-of-requires
-most-of-requires c κs = search needs
-
-number-of-requires : tie.Need-number-of-requires
-number-of-requires c κs = search needs
 
 returns-2 : tie.Need-returns-2
 returns-2 c =
@@ -36,9 +24,9 @@ pub value-of-spec : {M : Type 1} → statement M
 value-of-spec =
     tie.close
     (tie.spec
-    kind-of-requires
+    (λ c κs. search needs)
     returns
-    value-width-requires
-    most-of-requires
-    number-of-requires
+    (λ c κs. search needs)
+    (λ c κs. search needs)
+    (λ c κs. search needs)
     returns-2)

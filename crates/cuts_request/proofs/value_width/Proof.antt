@@ -6,9 +6,6 @@ use Rattle.sector.specs.declared.Kind.{Kind}
 use Rattle.cuts_request.proofs.value_width.Statement.{statement}
 use Rattle.cuts_request.proofs.value_width.Tie as tie
 
-kind-of-requires : tie.Need-kind-of-requires
-kind-of-requires c κs = search needs
-
 returns : tie.Need-returns
 returns c =
     let width = sym (ap (λ (kind : Kind). kind .width) (c .before .kind-of .ensures)) in
@@ -20,4 +17,4 @@ returns-2 c =
     rw (width, ne-eqb _ 0 (c .if1 .left))
 
 pub value-width-spec : {M : Type 1} → statement M
-value-width-spec = tie.close (tie.spec kind-of-requires returns returns-2)
+value-width-spec = tie.close (tie.spec (λ c κs. search needs) returns returns-2)

@@ -10,21 +10,6 @@ use Rattle.flash.proofs.Laws.{length-units}
 use Rattle.flash.proofs.unit_count.Statement.{statement}
 use Rattle.flash.proofs.unit_count.Tie as tie
 
-mul-pivot : tie.Need-mul-pivot
-mul-pivot c = search needs
-
-sub-all-ones : tie.Need-sub-all-ones
-sub-all-ones c = search needs
-
-part-all-ones-start : tie.Need-part-all-ones-start
-part-all-ones-start c = search needs
-
-part-all-ones-end : tie.Need-part-all-ones-end
-part-all-ones-end c = search needs
-
-all-ones-requires : tie.Need-all-ones-requires
-all-ones-requires c κs = search needs
-
 -- the call looks at what is left behind the whole units
 tail-ones : (c : tie.After-all-ones)
     → allOnes (drop (4 * (length (c .before .before .before .args .bytes .now) / 4)) (c .before .before .before .args .bytes .now)) ≡ c .all-ones .result
@@ -36,9 +21,6 @@ tail-ones c =
 returns : tie.Need-returns
 returns c = rw (length-units, tail-ones (c .before) ∙ c .if1 .taken) (omega arith)
 
-add-result : tie.Need-add-result
-add-result c = search needs
-
 returns-2 : tie.Need-returns-2
 returns-2 c = rw (length-units, tail-ones (c .before) ∙ c .if1 .left) (omega arith)
 
@@ -46,11 +28,11 @@ pub unit-count-spec : {M : Type 1} → statement M
 unit-count-spec =
     tie.close
     (tie.spec
-    mul-pivot
-    sub-all-ones
-    part-all-ones-start
-    part-all-ones-end
-    all-ones-requires
+    (λ c. search needs)
+    (λ c. search needs)
+    (λ c. search needs)
+    (λ c. search needs)
+    (λ c κs. search needs)
     returns
-    add-result
+    (λ c. search needs)
     returns-2)

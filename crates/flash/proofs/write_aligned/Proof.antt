@@ -19,9 +19,6 @@ take-min bytes n = go (decLe (length bytes) n)
     go (yes h) = take-all (min (length bytes) n) bytes (omega arith) ∙ sym (take-all n bytes h)
     go (no h) = let e : min (length bytes) n ≡ n = omega arith in rw e
 
-bytes-within-requires : tie.Need-bytes-within-requires
-bytes-within-requires c κs = search needs
-
 -- what is lent of the bytes
 length-within : (c : tie.After-bytes-within) → length (take (c .bytes-within .result) (c .before .before .before .args .bytes .now)) ≡ c .bytes-within .result
 length-within c = length-take-le (c .bytes-within .result) (c .before .before .before .args .bytes .now) (omega arith)
@@ -31,12 +28,6 @@ slice-aggregate-program-bytes c = sym (length-within (c .before .before))
 
 program-bytes-requires : tie.Need-program-bytes-requires
 program-bytes-requires c κs = omega (arith, length-within (c .before .before))
-
-unit-count-requires : tie.Need-unit-count-requires
-unit-count-requires c κs = search needs
-
-same-length : tie.Need-same-length
-same-length c = search needs
 
 returns : tie.Need-returns
 returns c =
@@ -55,9 +46,9 @@ pub write-aligned-spec : {M : Type 1} → statement M
 write-aligned-spec =
     tie.close
     (tie.spec
-    bytes-within-requires
+    (λ c κs. search needs)
     slice-aggregate-program-bytes
     program-bytes-requires
-    unit-count-requires
-    same-length
+    (λ c κs. search needs)
+    (λ c. search needs)
     returns)

@@ -5,11 +5,8 @@ use Rattle.page.specs.Writing.{answered}
 use Rattle.opening.proofs.blank.Statement.{statement}
 use Rattle.opening.proofs.blank.Tie as tie
 
-uninitialized-requires : tie.Need-uninitialized-requires
-uninitialized-requires c κs = search needs
-
 returns : tie.Need-returns
 returns c = ap (answered (c .before .args .answer)) (c .uninitialized .ensures)
 
 pub blank-spec : {M : Type 1} → statement M
-blank-spec = tie.close (tie.spec uninitialized-requires returns)
+blank-spec = tie.close (tie.spec (λ c κs. search needs) returns)

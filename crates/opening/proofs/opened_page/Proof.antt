@@ -14,18 +14,6 @@ opened : (c : tie.After-changes) → c .changes .result .page .map ≡ openedMap
 unfolding openedPage
 opened c = ap (λ (page : ThinPage). page .map) (c .changes .ensures .2)
 
-changes-requires : tie.Need-changes-requires
-changes-requires c κs = search needs
-
-program-changes-requires : tie.Need-program-changes-requires
-program-changes-requires c κs = search needs
-
-program-changes-requires-2 : tie.Need-program-changes-requires-2
-program-changes-requires-2 c κs = search needs
-
-same-length : tie.Need-same-length
-same-length c = search needs
-
 returns : tie.Need-returns
 unfolding openingPlan
 returns c =
@@ -43,8 +31,8 @@ pub opened-page-spec : {M : Type 1} → statement M
 opened-page-spec =
     tie.close
     (tie.spec
-    changes-requires
-    program-changes-requires
-    program-changes-requires-2
-    same-length
+    (λ c κs. search needs)
+    (λ c κs. search needs)
+    (λ c κs. search needs)
+    (λ c. search needs)
     returns)

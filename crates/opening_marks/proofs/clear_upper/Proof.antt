@@ -11,12 +11,6 @@ use Rattle.opening_marks.proofs.clear_upper.Tie as tie
 erased : (c : tie.After-is-erased) → let args = c .before .before .args in sameState (stateAt (args .opened) (args .index)) Erased ≡ c .is-erased .result
 erased c = sym (c .is-erased .ensures ∙ ap (λ (s : EntryMapState). sameState s Erased) (c .before .state-at .ensures))
 
-state-at-requires : tie.Need-state-at-requires
-state-at-requires c κs = search needs
-
-is-erased-requires : tie.Need-is-erased-requires
-is-erased-requires c κs = search needs
-
 returns : tie.Need-returns
 returns c = rw (erased (c .before) ∙ not-true (c .before .is-erased .result) (c .if1 .taken))
 
@@ -24,9 +18,6 @@ returns-2 : tie.Need-returns-2
 returns-2 c =
     let tested = c .before in
     rw (erased (tested .before) ∙ not-false (tested .before .is-erased .result) (tested .if1 .left), c .if2 .taken)
-
-mark-range-requires : tie.Need-mark-range-requires
-mark-range-requires c κs = search needs
 
 returns-3 : tie.Need-returns-3
 returns-3 c =
@@ -36,4 +27,4 @@ returns-3 c =
 pub clear-upper-spec : {M : Type 1} → statement M
 clear-upper-spec =
     tie.close
-    (tie.spec state-at-requires is-erased-requires returns returns-2 mark-range-requires returns-3)
+    (tie.spec (λ c κs. search needs) (λ c κs. search needs) returns returns-2 (λ c κs. search needs) returns-3)

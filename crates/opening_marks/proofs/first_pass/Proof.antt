@@ -23,18 +23,6 @@ long c = c .good .0 .1 .0 .1
 loop-holds : tie.Need-loop-holds Inv-loop μ-loop
 loop-holds c = (search needs, passed-start _ (c .args .map) (long c) (bytes-of-array (c .args .map) _ (c .good .0 .1 .1)))
 
-array-read-clear-upper : tie.Need-array-read-clear-upper Inv-loop μ-loop
-array-read-clear-upper c = search needs
-
-clear-upper-requires : tie.Need-clear-upper-requires Inv-loop μ-loop
-clear-upper-requires c κs = search needs
-
-add-index : tie.Need-add-index Inv-loop μ-loop
-add-index c = search needs
-
-loop-less : tie.Need-loop-less Inv-loop μ-loop
-loop-less c = search needs
-
 loop-again : tie.Need-loop-again Inv-loop μ-loop
 loop-again c =
     let at = c .before .before in
@@ -62,9 +50,9 @@ first-pass-spec =
     Inv-loop
     μ-loop
     loop-holds
-    array-read-clear-upper
-    clear-upper-requires
-    add-index
-    loop-less
+    (λ c. search needs)
+    (λ c κs. search needs)
+    (λ c. search needs)
+    (λ c. search needs)
     loop-again
     returns)

@@ -10,23 +10,8 @@ use Rattle.opening_marks.proofs.is_free.Tie as tie
 empty : (c : tie.After-is-empty) → let args = c .before .before .before .args in isEmpty (stateAt (args .map) (args .index)) ≡ c .is-empty .result
 empty c = sym (c .is-empty .ensures ∙ ap isEmpty (c .before .state-at .ensures))
 
-state-at-requires : tie.Need-state-at-requires
-state-at-requires c κs = search needs
-
-is-empty-requires : tie.Need-is-empty-requires
-is-empty-requires c κs = search needs
-
 returns : tie.Need-returns
 returns c = rw (empty (c .before) ∙ not-true (c .before .is-empty .result) (c .if1 .taken))
-
-entry-at-requires : tie.Need-entry-at-requires
-entry-at-requires c κs = search needs
-
-slice-aggregate-all-ones : tie.Need-slice-aggregate-all-ones
-slice-aggregate-all-ones c = search needs
-
-all-ones-requires : tie.Need-all-ones-requires
-all-ones-requires c κs = search needs
 
 returns-2 : tie.Need-returns-2
 returns-2 c =
@@ -38,10 +23,10 @@ pub is-free-spec : {M : Type 1} → statement M
 is-free-spec =
     tie.close
     (tie.spec
-    state-at-requires
-    is-empty-requires
+    (λ c κs. search needs)
+    (λ c κs. search needs)
     returns
-    entry-at-requires
-    slice-aggregate-all-ones
-    all-ones-requires
+    (λ c κs. search needs)
+    (λ c. search needs)
+    (λ c κs. search needs)
     returns-2)

@@ -18,18 +18,6 @@ Inv-loop image₀ old new unit₀ image unit =
 abbrev μ-loop : tie.MeasureT-loop
 μ-loop image₀ old new unit₀ image unit = 8 - unit
 
-loop-holds : tie.Need-loop-holds Inv-loop μ-loop
-loop-holds c = search needs
-
-program-unit-requires : tie.Need-program-unit-requires Inv-loop μ-loop
-program-unit-requires c κs = search needs
-
-add-unit : tie.Need-add-unit Inv-loop μ-loop
-add-unit c = search needs
-
-loop-less : tie.Need-loop-less Inv-loop μ-loop
-loop-less c = search needs
-
 loop-again : tie.Need-loop-again Inv-loop μ-loop
 loop-again c =
     let programmed = c .before .before in
@@ -58,10 +46,10 @@ program-changes-spec =
     (tie.spec
     Inv-loop
     μ-loop
-    loop-holds
-    program-unit-requires
-    add-unit
-    loop-less
+    (λ c. search needs)
+    (λ c κs. search needs)
+    (λ c. search needs)
+    (λ c. search needs)
     loop-again
     same-length
     returns)

@@ -9,36 +9,9 @@ use Rattle.opening_marks.proofs.Passes.{take-mapUnit}
 use Rattle.opening_marks.proofs.program_unit.Statement.{statement}
 use Rattle.opening_marks.proofs.program_unit.Tie as tie
 
-same-unit-requires : tie.Need-same-unit-requires
-same-unit-requires c κs = search needs
-
 returns : tie.Need-returns
 unfolding run
 returns c = rw (sym (c .before .same-unit .ensures) ∙ c .if1 .taken)
-
-mul-start : tie.Need-mul-start
-mul-start c = search needs
-
-add-write-aligned : tie.Need-add-write-aligned
-add-write-aligned c = search needs
-
-add-write-aligned-2 : tie.Need-add-write-aligned-2
-add-write-aligned-2 c = search needs
-
-sub-write-aligned : tie.Need-sub-write-aligned
-sub-write-aligned c = search needs
-
-part-write-aligned-start : tie.Need-part-write-aligned-start
-part-write-aligned-start c = search needs
-
-part-write-aligned-end : tie.Need-part-write-aligned-end
-part-write-aligned-end c = search needs
-
-write-aligned-requires : tie.Need-write-aligned-requires
-write-aligned-requires c κs = search needs
-
-same-length : tie.Need-same-length
-same-length c = search needs
 
 returns-2 : tie.Need-returns-2
 returns-2 c =
@@ -55,14 +28,14 @@ pub program-unit-spec : {M : Type 1} → statement M
 program-unit-spec =
     tie.close
     (tie.spec
-    same-unit-requires
+    (λ c κs. search needs)
     returns
-    mul-start
-    add-write-aligned
-    add-write-aligned-2
-    sub-write-aligned
-    part-write-aligned-start
-    part-write-aligned-end
-    write-aligned-requires
-    same-length
+    (λ c. search needs)
+    (λ c. search needs)
+    (λ c. search needs)
+    (λ c. search needs)
+    (λ c. search needs)
+    (λ c. search needs)
+    (λ c κs. search needs)
+    (λ c. search needs)
     returns-2)

@@ -21,64 +21,19 @@ bytes : (c : tie.Start)
 bytes c =
     ap₂ (λ (xs ys : List ℕ). sameBytes xs ys) (unit-bytes (c .args .t1) (c .args .unit) (omega arith)) (unit-bytes (c .args .t2) (c .args .unit) (omega arith))
 
-mul-start : tie.Need-mul-start
-mul-start c = search needs
-
-array-read-if1 : tie.Need-array-read-if1
-array-read-if1 c = search needs
-
-array-read-if1-2 : tie.Need-array-read-if1-2
-array-read-if1-2 c = search needs
-
 returns : tie.Need-returns
 returns c = rw (bytes (c .before), ne-eqb _ _ (c .if1 .taken))
-
-add-if2 : tie.Need-add-if2
-add-if2 c = search needs
-
-array-read-if2 : tie.Need-array-read-if2
-array-read-if2 c = search needs
-
-add-if2-2 : tie.Need-add-if2-2
-add-if2-2 c = search needs
-
-array-read-if2-2 : tie.Need-array-read-if2-2
-array-read-if2-2 c = search needs
 
 returns-2 : tie.Need-returns-2
 returns-2 c =
     let first = c .before in
     rw (bytes (first .before), eq-eqb _ _ (first .if1 .left), ne-eqb _ _ (c .if2 .taken))
 
-add-if3 : tie.Need-add-if3
-add-if3 c = search needs
-
-array-read-if3 : tie.Need-array-read-if3
-array-read-if3 c = search needs
-
-add-if3-2 : tie.Need-add-if3-2
-add-if3-2 c = search needs
-
-array-read-if3-2 : tie.Need-array-read-if3-2
-array-read-if3-2 c = search needs
-
 returns-3 : tie.Need-returns-3
 returns-3 c =
     let second = c .before in
     let first = second .before in
     rw (bytes (first .before), eq-eqb _ _ (first .if1 .left), eq-eqb _ _ (second .if2 .left), ne-eqb _ _ (c .if3 .taken))
-
-add-result : tie.Need-add-result
-add-result c = search needs
-
-array-read-result : tie.Need-array-read-result
-array-read-result c = search needs
-
-add-result-2 : tie.Need-add-result-2
-add-result-2 c = search needs
-
-array-read-result-2 : tie.Need-array-read-result-2
-array-read-result-2 c = search needs
 
 returns-4 : tie.Need-returns-4
 returns-4 c =
@@ -90,22 +45,22 @@ pub same-unit-spec : {M : Type 1} → statement M
 same-unit-spec =
     tie.close
     (tie.spec
-    mul-start
-    array-read-if1
-    array-read-if1-2
+    (λ c. search needs)
+    (λ c. search needs)
+    (λ c. search needs)
     returns
-    add-if2
-    array-read-if2
-    add-if2-2
-    array-read-if2-2
+    (λ c. search needs)
+    (λ c. search needs)
+    (λ c. search needs)
+    (λ c. search needs)
     returns-2
-    add-if3
-    array-read-if3
-    add-if3-2
-    array-read-if3-2
+    (λ c. search needs)
+    (λ c. search needs)
+    (λ c. search needs)
+    (λ c. search needs)
     returns-3
-    add-result
-    array-read-result
-    add-result-2
-    array-read-result-2
+    (λ c. search needs)
+    (λ c. search needs)
+    (λ c. search needs)
+    (λ c. search needs)
     returns-4)

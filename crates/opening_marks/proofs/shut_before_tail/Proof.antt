@@ -4,14 +4,8 @@ use borrow.Author.Needs.{needs}
 use Rattle.opening_marks.proofs.shut_before_tail.Statement.{statement}
 use Rattle.opening_marks.proofs.shut_before_tail.Tie as tie
 
-tail-start-requires : tie.Need-tail-start-requires
-tail-start-requires c κs = search needs
-
-shut-to-requires : tie.Need-shut-to-requires
-shut-to-requires c κs = search needs
-
 returns : tie.Need-returns
 returns c = (c .shut-to .ensures .0 ∙ sym (c .before .tail-start .ensures .1), c .shut-to .ensures .1)
 
 pub shut-before-tail-spec : {M : Type 1} → statement M
-shut-before-tail-spec = tie.close (tie.spec tail-start-requires shut-to-requires returns)
+shut-before-tail-spec = tie.close (tie.spec (λ c κs. search needs) (λ c κs. search needs) returns)

@@ -16,17 +16,8 @@ written-sym Illegal = refl
 written : (c : tie.After-is-written) → let args = c .before .before .args in sameState (stateAt (args .map) (args .index)) Written ≡ c .is-written .result
 written c = sym (c .is-written .ensures ∙ written-sym (c .before .state-at .result) ∙ ap (λ (s : EntryMapState). sameState s Written) (c .before .state-at .ensures))
 
-state-at-requires : tie.Need-state-at-requires
-state-at-requires c κs = search needs
-
-is-written-requires : tie.Need-is-written-requires
-is-written-requires c κs = search needs
-
 returns : tie.Need-returns
 returns c = rw (written (c .before) ∙ c .if1 .taken)
-
-mark-range-requires : tie.Need-mark-range-requires
-mark-range-requires c κs = search needs
 
 returns-2 : tie.Need-returns-2
 returns-2 c = rw (written (c .before .before) ∙ c .before .if1 .left) (c .mark-range .ensures)
@@ -34,4 +25,4 @@ returns-2 c = rw (written (c .before .before) ∙ c .before .if1 .left) (c .mark
 pub shut-entry-spec : {M : Type 1} → statement M
 shut-entry-spec =
     tie.close
-    (tie.spec state-at-requires is-written-requires returns mark-range-requires returns-2)
+    (tie.spec (λ c κs. search needs) (λ c κs. search needs) returns (λ c κs. search needs) returns-2)

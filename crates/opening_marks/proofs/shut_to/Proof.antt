@@ -23,15 +23,6 @@ long c = c .good .0 .1 .0 .1
 loop-holds : tie.Need-loop-holds Inv-loop μ-loop
 loop-holds c = (search needs, passed-start (shutTo (c .args .end) (statesOf (c .args .map))) (c .args .map) (long c) (bytes-of-array (c .args .map) _ (c .good .0 .1 .1)))
 
-shut-entry-requires : tie.Need-shut-entry-requires Inv-loop μ-loop
-shut-entry-requires c κs = search needs
-
-add-index : tie.Need-add-index Inv-loop μ-loop
-add-index c = search needs
-
-loop-less : tie.Need-loop-less Inv-loop μ-loop
-loop-less c = search needs
-
 loop-again : tie.Need-loop-again Inv-loop μ-loop
 loop-again c =
     let at = c .before .before in
@@ -53,8 +44,8 @@ shut-to-spec =
     Inv-loop
     μ-loop
     loop-holds
-    shut-entry-requires
-    add-index
-    loop-less
+    (λ c κs. search needs)
+    (λ c. search needs)
+    (λ c. search needs)
     loop-again
     returns)

@@ -29,12 +29,6 @@ loop-holds c =
     let short : length (statesOf map) ≤ 126 = omega (arith, length-statesOf map long) in
     (omega arith, rw (drop-of-length-le (statesOf map) short))
 
-sub-is-free : tie.Need-sub-is-free Inv-loop μ-loop
-sub-is-free c = search needs
-
-is-free-requires : tie.Need-is-free-requires Inv-loop μ-loop
-is-free-requires c κs = search needs
-
 -- one entry more: the tail is free from it on where it is
 tail-next : (c : tie.After-is-free Inv-loop μ-loop)
     → let at = c .before .before in
@@ -68,12 +62,6 @@ returns c =
           (tail-next (c .before) ∙ not-true (c .before .is-free .result) (c .if1 .taken)) (rw next (at .loop .inv .1))),
     )
 
-sub-start : tie.Need-sub-start Inv-loop μ-loop
-sub-start c = search needs
-
-loop-less : tie.Need-loop-less Inv-loop μ-loop
-loop-less c = search needs
-
 loop-again : tie.Need-loop-again Inv-loop μ-loop
 loop-again c = (omega arith, tail-next (c .before) ∙ not-false (c .before .is-free .result) (c .if1 .left))
 
@@ -91,10 +79,10 @@ tail-start-spec =
     Inv-loop
     μ-loop
     loop-holds
-    sub-is-free
-    is-free-requires
+    (λ c. search needs)
+    (λ c κs. search needs)
     returns
-    sub-start
-    loop-less
+    (λ c. search needs)
+    (λ c. search needs)
     loop-again
     returns-2)

@@ -33,15 +33,6 @@ abbrev μ-loop : tie.MeasureT-loop
 loop-holds : tie.Need-loop-holds Inv-loop μ-loop
 loop-holds c = (search needs, rw (sub-zero, add-zero))
 
-add-state-at : tie.Need-add-state-at Inv-loop μ-loop
-add-state-at c = search needs
-
-state-at-requires : tie.Need-state-at-requires Inv-loop μ-loop
-state-at-requires c κs = search needs
-
-is-usable-requires : tie.Need-is-usable-requires Inv-loop μ-loop
-is-usable-requires c κs = search needs
-
 -- in a turn: the next entry, and then what is left
 next : (c : tie.After-is-usable Inv-loop μ-loop)
     → let args = c .before .before .before .before .args in
@@ -58,12 +49,6 @@ next c =
 
 returns : tie.Need-returns Inv-loop μ-loop
 returns c = sym (rw (not-true (c .before .is-usable .result) (c .if1 .taken)) at (next (c .before)))
-
-add-k : tie.Need-add-k Inv-loop μ-loop
-add-k c = search needs
-
-loop-less : tie.Need-loop-less Inv-loop μ-loop
-loop-less c = search needs
 
 loop-again : tie.Need-loop-again Inv-loop μ-loop
 loop-again c = (search needs, sym (rw (not-false (c .before .is-usable .result) (c .if1 .left)) at (next (c .before))))
@@ -82,11 +67,11 @@ all-usable-spec =
     Inv-loop
     μ-loop
     loop-holds
-    add-state-at
-    state-at-requires
-    is-usable-requires
+    (λ c. search needs)
+    (λ c κs. search needs)
+    (λ c κs. search needs)
     returns
-    add-k
-    loop-less
+    (λ c. search needs)
+    (λ c. search needs)
     loop-again
     returns-2)

@@ -63,61 +63,13 @@ payload-right c =
     let stored = c .before .number-at .ensures in
     ap not (eq-eqb _ _ (crc ∙ c .if2 .left ∙ stored))
 
-array-read-behind : tie.Need-array-read-behind
-array-read-behind c = search needs
-
-cast-behind : tie.Need-cast-behind
-cast-behind c = search needs
-
-sub-behind : tie.Need-sub-behind
-sub-behind c = search needs
-
-size-of-requires : tie.Need-size-of-requires
-size-of-requires c κs = search needs
-
-mul-if1 : tie.Need-mul-if1
-mul-if1 c = search needs
-
 returns : tie.Need-returns
 returns c = rw (too-big c)
-
-add-entry-address : tie.Need-add-entry-address
-add-entry-address c = search needs
-
-entry-address-requires : tie.Need-entry-address-requires
-entry-address-requires c κs = search needs
-
-add-crc32 : tie.Need-add-crc32
-add-crc32 c = search needs
-
-sub-crc32 : tie.Need-sub-crc32
-sub-crc32 c = search needs
-
-part-crc32-start : tie.Need-part-crc32-start
-part-crc32-start c = search needs
-
-part-crc32-end : tie.Need-part-crc32-end
-part-crc32-end c = search needs
-
-crc32-requires : tie.Need-crc32-requires
-crc32-requires c κs = search needs
-
-slice-aggregate-number-at : tie.Need-slice-aggregate-number-at
-slice-aggregate-number-at c = search needs
-
-number-at-requires : tie.Need-number-at-requires
-number-at-requires c κs = search needs
 
 returns-2 : tie.Need-returns-2
 returns-2 c =
     let paid = c .before .before .before in
     rw (sized (paid .before .before .before), payload-wrong c)
-
-add-all-usable : tie.Need-add-all-usable
-add-all-usable c = search needs
-
-all-usable-requires : tie.Need-all-usable-requires
-all-usable-requires c κs = search needs
 
 returns-3 : tie.Need-returns-3
 returns-3 c =
@@ -143,23 +95,23 @@ pub payload-verdict-spec : {M : Type 1} → statement M
 payload-verdict-spec =
     tie.close
     (tie.spec
-    array-read-behind
-    cast-behind
-    sub-behind
-    size-of-requires
-    mul-if1
+    (λ c. search needs)
+    (λ c. search needs)
+    (λ c. search needs)
+    (λ c κs. search needs)
+    (λ c. search needs)
     returns
-    add-entry-address
-    entry-address-requires
-    add-crc32
-    sub-crc32
-    part-crc32-start
-    part-crc32-end
-    crc32-requires
-    slice-aggregate-number-at
-    number-at-requires
+    (λ c. search needs)
+    (λ c κs. search needs)
+    (λ c. search needs)
+    (λ c. search needs)
+    (λ c. search needs)
+    (λ c. search needs)
+    (λ c κs. search needs)
+    (λ c. search needs)
+    (λ c κs. search needs)
     returns-2
-    add-all-usable
-    all-usable-requires
+    (λ c. search needs)
+    (λ c κs. search needs)
     returns-3
     returns-4)

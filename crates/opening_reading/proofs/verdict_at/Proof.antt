@@ -4,23 +4,8 @@ use borrow.Author.Needs.{needs}
 use Rattle.opening_reading.proofs.verdict_at.Statement.{statement}
 use Rattle.opening_reading.proofs.verdict_at.Tie as tie
 
-state-at-requires : tie.Need-state-at-requires
-state-at-requires c κs = search needs
-
 enum-told : tie.Need-enum-told
 enum-told c = search needs
-
-enum-told-2 : tie.Need-enum-told-2
-enum-told-2 c = search needs
-
-written-verdict-requires : tie.Need-written-verdict-requires
-written-verdict-requires c κs = search needs
-
-enum-told-3 : tie.Need-enum-told-3
-enum-told-3 c = search needs
-
-enum-told-4 : tie.Need-enum-told-4
-enum-told-4 c = search needs
 
 returns : tie.Need-returns
 returns c = rw (sym (c .before .before .state-at .ensures) ∙ c .enum-told .given .1)
@@ -40,12 +25,12 @@ pub verdict-at-spec : {M : Type 1} → statement M
 verdict-at-spec =
     tie.close
     (tie.spec
-    state-at-requires
+    (λ c κs. search needs)
     enum-told
-    enum-told-2
-    written-verdict-requires
-    enum-told-3
-    enum-told-4
+    (λ c. search needs)
+    (λ c κs. search needs)
+    (λ c. search needs)
+    (λ c. search needs)
     returns
     returns-2
     returns-3

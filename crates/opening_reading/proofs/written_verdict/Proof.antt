@@ -63,23 +63,11 @@ payload-tested : (c : tie.After-kind-of) → isPayload (c .before .before .befor
 unfolding kindOf
 payload-tested c = sym (ap (λ (kind : Kind). kind .payload) (c .kind-of .ensures))
 
-entry-at-requires : tie.Need-entry-at-requires
-entry-at-requires c κs = search needs
-
-slice-aggregate-all-ones : tie.Need-slice-aggregate-all-ones
-slice-aggregate-all-ones c = search needs
-
-all-ones-requires : tie.Need-all-ones-requires
-all-ones-requires c κs = search needs
-
 returns : tie.Need-returns
 unfolding headerRefusal
 returns c =
     let read = c .before .before .before in
     rw (← read .entry-at .ensures, sym (c .before .all-ones .ensures) ∙ c .if1 .taken)
-
-loads-requires : tie.Need-loads-requires
-loads-requires c κs = search needs
 
 returns-2 : tie.Need-returns-2
 unfolding headerRefusal
@@ -87,21 +75,12 @@ returns-2 c =
     let read = c .before .before .before .before .before in
     rw (← read .entry-at .ensures, bytes-there (c .before .before), crc-tested (c .before) ∙ not-true (c .before .loads .result) (c .if2 .taken))
 
-array-read-span : tie.Need-array-read-span
-array-read-span c = search needs
-
-cast-span : tie.Need-cast-span
-cast-span c = search needs
-
 returns-3 : tie.Need-returns-3
 unfolding headerRefusal
 returns-3 c =
     let loaded = c .before in
     let read = loaded .before .before .before .before .before in
     rw (← read .entry-at .ensures, bytes-there (loaded .before .before), crc-right loaded, eq-eqb (spanOf (read .entry-at .result)) 0 (c .if3 .taken))
-
-sub-if4 : tie.Need-sub-if4
-sub-if4 c = search needs
 
 returns-4 : tie.Need-returns-4
 unfolding headerRefusal
@@ -118,15 +97,6 @@ returns-4 c =
       entries-left (args .image .now) (args .index),
       lt-ltb (125 - args .index) (covered entry) (omega arith),
     )
-
-array-read-kind-of : tie.Need-array-read-kind-of
-array-read-kind-of c = search needs
-
-kind-of-requires : tie.Need-kind-of-requires
-kind-of-requires c κs = search needs
-
-payload-verdict-requires : tie.Need-payload-verdict-requires
-payload-verdict-requires c κs = search needs
 
 returns-5 : tie.Need-returns-5
 unfolding payloadRefusal
@@ -166,20 +136,20 @@ pub written-verdict-spec : {M : Type 1} → statement M
 written-verdict-spec =
     tie.close
     (tie.spec
-    entry-at-requires
-    slice-aggregate-all-ones
-    all-ones-requires
+    (λ c κs. search needs)
+    (λ c. search needs)
+    (λ c κs. search needs)
     returns
-    loads-requires
+    (λ c κs. search needs)
     returns-2
-    array-read-span
-    cast-span
+    (λ c. search needs)
+    (λ c. search needs)
     returns-3
-    sub-if4
+    (λ c. search needs)
     returns-4
-    array-read-kind-of
-    kind-of-requires
-    payload-verdict-requires
+    (λ c. search needs)
+    (λ c κs. search needs)
+    (λ c κs. search needs)
     returns-5
     returns-6
     returns-7)

@@ -12,14 +12,8 @@ use Rattle.page_write.proofs.active_refusal.Tie as tie
 fit : (c : tie.Else1) → fitToUse (c .before .before .args .page) ≡ true
 fit c = sym (c .before .fit-to-use .ensures) ∙ not-false (c .before .fit-to-use .result) (c .if1 .left)
 
-fit-to-use-requires : tie.Need-fit-to-use-requires
-fit-to-use-requires c κs = search needs
-
 returns : tie.Need-returns
 returns c = rw (sym (c .before .fit-to-use .ensures) ∙ not-true (c .before .fit-to-use .result) (c .if1 .taken))
-
-is-active-requires : tie.Need-is-active-requires
-is-active-requires c κs = search needs
 
 returns-2 : tie.Need-returns-2
 returns-2 c =
@@ -31,4 +25,4 @@ returns-3 c =
 
 pub active-refusal-spec : {M : Type 1} → statement M
 active-refusal-spec =
-    tie.close (tie.spec fit-to-use-requires returns is-active-requires returns-2 returns-3)
+    tie.close (tie.spec (λ c κs. search needs) returns (λ c κs. search needs) returns-2 returns-3)

@@ -8,11 +8,8 @@ use Rattle.page_write.proofs.append_refusal.Tie as tie
 returns : tie.Need-returns
 returns c = rw (ne-eqb _ _ (c .if1 .taken))
 
-active-refusal-requires : tie.Need-active-refusal-requires
-active-refusal-requires c κs = search needs
-
 returns-2 : tie.Need-returns-2
 returns-2 c = rw (eq-eqb _ _ (c .before .if1 .left)) (c .active-refusal .ensures)
 
 pub append-refusal-spec : {M : Type 1} → statement M
-append-refusal-spec = tie.close (tie.spec returns active-refusal-requires returns-2)
+append-refusal-spec = tie.close (tie.spec returns (λ c κs. search needs) returns-2)

@@ -4,11 +4,8 @@ use borrow.Author.Needs.{needs}
 use Rattle.page_write.proofs.is_done.Statement.{statement}
 use Rattle.page_write.proofs.is_done.Tie as tie
 
-number-of-requires : tie.Need-number-of-requires
-number-of-requires c κs = search needs
-
 returns : tie.Need-returns
 returns c = rw (c .number-of .ensures)
 
 pub is-done-spec : {M : Type 1} → statement M
-is-done-spec = tie.close (tie.spec number-of-requires returns)
+is-done-spec = tie.close (tie.spec (λ c κs. search needs) returns)

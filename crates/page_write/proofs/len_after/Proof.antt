@@ -5,9 +5,6 @@ use borrow.Author.Tests.{eq-eqb, ne-eqb}
 use Rattle.page_write.proofs.len_after.Statement.{statement}
 use Rattle.page_write.proofs.len_after.Tie as tie
 
-add-result : tie.Need-add-result
-add-result c = search needs
-
 returns : tie.Need-returns
 returns c = rw (eq-eqb _ _ (c .if1 .taken))
 
@@ -15,4 +12,4 @@ returns-2 : tie.Need-returns-2
 returns-2 c = rw (ne-eqb _ _ (c .if1 .left))
 
 pub len-after-spec : {M : Type 1} → statement M
-len-after-spec = tie.close (tie.spec add-result returns returns-2)
+len-after-spec = tie.close (tie.spec (λ c. search needs) returns returns-2)

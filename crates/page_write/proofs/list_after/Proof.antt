@@ -8,14 +8,8 @@ use Rattle.page_write.proofs.list_after.Tie as tie
 returns : tie.Need-returns
 returns c = rw (eq-eqb _ _ (c .if1 .taken))
 
-mul-places : tie.Need-mul-places
-mul-places c = search needs
-
-array-set-from-places : tie.Need-array-set-from-places
-array-set-from-places c = search needs
-
 returns-2 : tie.Need-returns-2
 returns-2 c = rw (ne-eqb _ _ (c .if1 .left))
 
 pub list-after-spec : {M : Type 1} → statement M
-list-after-spec = tie.close (tie.spec returns mul-places array-set-from-places returns-2)
+list-after-spec = tie.close (tie.spec returns (λ c. search needs) (λ c. search needs) returns-2)

@@ -12,23 +12,8 @@ use Rattle.page.proofs.Plans.{length-map-units-le, length-full-units, run-both}
 use Rattle.page_write.proofs.seal.Statement.{statement}
 use Rattle.page_write.proofs.seal.Tie as tie
 
-write-marks-requires : tie.Need-write-marks-requires
-write-marks-requires c κs = search needs
-
-add-if1 : tie.Need-add-if1
-add-if1 c = search needs
-
-same-length : tie.Need-same-length
-same-length c = search needs
-
 returns : tie.Need-returns
 returns c = rw (ne-eqb _ 126 (c .if1 .taken), append-nil) (c .before .before .before .write-marks .ensures)
-
-remaining-requires : tie.Need-remaining-requires
-remaining-requires c κs = search needs
-
-write-full-requires : tie.Need-write-full-requires
-write-full-requires c κs = search needs
 
 add-result : tie.Need-add-result
 add-result c =
@@ -42,9 +27,6 @@ add-result c =
       full .write-full .ensures .0,
       length-full-units 126,
     )
-
-same-length-2 : tie.Need-same-length-2
-same-length-2 c = search needs
 
 returns-2 : tie.Need-returns-2
 returns-2 c =
@@ -64,12 +46,12 @@ pub seal-spec : {M : Type 1} → statement M
 seal-spec =
     tie.close
     (tie.spec
-    write-marks-requires
-    add-if1
-    same-length
+    (λ c κs. search needs)
+    (λ c. search needs)
+    (λ c. search needs)
     returns
-    remaining-requires
-    write-full-requires
+    (λ c κs. search needs)
+    (λ c κs. search needs)
     add-result
-    same-length-2
+    (λ c. search needs)
     returns-2)

@@ -12,18 +12,6 @@ use Rattle.page.proofs.Plans.{length-seal-le, run-both}
 use Rattle.page_write.proofs.write_entries.Statement.{statement}
 use Rattle.page_write.proofs.write_entries.Tie as tie
 
-entry-address-requires : tie.Need-entry-address-requires
-entry-address-requires c κs = search needs
-
-write-aligned-requires : tie.Need-write-aligned-requires
-write-aligned-requires c κs = search needs
-
-remaining-requires : tie.Need-remaining-requires
-remaining-requires c κs = search needs
-
-seal-requires : tie.Need-seal-requires
-seal-requires c κs = search needs
-
 add-result : tie.Need-add-result
 add-result c =
     let sealed = c .before .before in
@@ -37,9 +25,6 @@ add-result c =
       sealed .seal .ensures .0,
       length-seal-le (z .start) (z .span) (z .map) (start .pre .3),
     )
-
-same-length : tie.Need-same-length
-same-length c = search needs
 
 returns : tie.Need-returns
 returns c =
@@ -61,10 +46,10 @@ pub write-entries-spec : {M : Type 1} → statement M
 write-entries-spec =
     tie.close
     (tie.spec
-    entry-address-requires
-    write-aligned-requires
-    remaining-requires
-    seal-requires
+    (λ c κs. search needs)
+    (λ c κs. search needs)
+    (λ c κs. search needs)
+    (λ c κs. search needs)
     add-result
-    same-length
+    (λ c. search needs)
     returns)

@@ -12,27 +12,6 @@ use Rattle.sector.proofs.Laws.{over}
 use Rattle.sector_hash.proofs.calculate_hash.Statement.{statement}
 use Rattle.sector_hash.proofs.calculate_hash.Tie as tie
 
-array-write-hashed : tie.Need-array-write-hashed
-array-write-hashed c = search needs
-
-slice-aggregate-put : tie.Need-slice-aggregate-put
-slice-aggregate-put c = search needs
-
-slice-aggregate-put-2 : tie.Need-slice-aggregate-put-2
-slice-aggregate-put-2 c = search needs
-
-put-requires : tie.Need-put-requires
-put-requires c κs = search needs
-
-array-write-hashed-2 : tie.Need-array-write-hashed-2
-array-write-hashed-2 c = search needs
-
-slice-aggregate-crc32 : tie.Need-slice-aggregate-crc32
-slice-aggregate-crc32 c = search needs
-
-crc32-requires : tie.Need-crc32-requires
-crc32-requires c κs = search needs
-
 -- namespace, key and chunk, one behind the other
 laid : (namespace chunk : ℕ) (key : List ℕ) → length key ≡ 16
     → set (over (namespace ∷ replicate 17 0) 1 key) 17 chunk ≡ namespace ∷ key ++ (chunk ∷ [])
@@ -50,11 +29,11 @@ pub calculate-hash-spec : {M : Type 1} → statement M
 calculate-hash-spec =
     tie.close
     (tie.spec
-    array-write-hashed
-    slice-aggregate-put
-    slice-aggregate-put-2
-    put-requires
-    array-write-hashed-2
-    slice-aggregate-crc32
-    crc32-requires
+    (λ c. search needs)
+    (λ c. search needs)
+    (λ c. search needs)
+    (λ c κs. search needs)
+    (λ c. search needs)
+    (λ c. search needs)
+    (λ c κs. search needs)
     returns)

@@ -16,24 +16,6 @@ Inv-loop entry key₀ k₀ key k = (k ≤ 16) × (key ≡ take k (drop 8 entry) 
 abbrev μ-loop : tie.MeasureT-loop
 μ-loop entry key₀ k₀ key k = 16 - k
 
-loop-holds : tie.Need-loop-holds Inv-loop μ-loop
-loop-holds c = search needs
-
-add-key : tie.Need-add-key Inv-loop μ-loop
-add-key c = search needs
-
-array-read-key : tie.Need-array-read-key Inv-loop μ-loop
-array-read-key c = search needs
-
-array-write-key : tie.Need-array-write-key Inv-loop μ-loop
-array-write-key c = search needs
-
-add-k : tie.Need-add-k Inv-loop μ-loop
-add-k c = search needs
-
-loop-less : tie.Need-loop-less Inv-loop μ-loop
-loop-less c = search needs
-
 loop-again : tie.Need-loop-again Inv-loop μ-loop
 loop-again c =
     let entry = c .before .before .args .t1 in
@@ -53,11 +35,11 @@ key-of-spec =
     (tie.spec
     Inv-loop
     μ-loop
-    loop-holds
-    add-key
-    array-read-key
-    array-write-key
-    add-k
-    loop-less
+    (λ c. search needs)
+    (λ c. search needs)
+    (λ c. search needs)
+    (λ c. search needs)
+    (λ c. search needs)
+    (λ c. search needs)
     loop-again
     returns)

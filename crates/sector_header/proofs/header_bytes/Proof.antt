@@ -12,45 +12,6 @@ use Rattle.sector.proofs.Laws.{over}
 use Rattle.sector_header.proofs.header_bytes.Statement.{statement}
 use Rattle.sector_header.proofs.header_bytes.Tie as tie
 
-little-endian-requires : tie.Need-little-endian-requires
-little-endian-requires c κs = search needs
-
-slice-aggregate-put : tie.Need-slice-aggregate-put
-slice-aggregate-put c = search needs
-
-slice-aggregate-put-2 : tie.Need-slice-aggregate-put-2
-slice-aggregate-put-2 c = search needs
-
-put-requires : tie.Need-put-requires
-put-requires c κs = search needs
-
-little-endian-requires-2 : tie.Need-little-endian-requires-2
-little-endian-requires-2 c κs = search needs
-
-slice-aggregate-put-3 : tie.Need-slice-aggregate-put-3
-slice-aggregate-put-3 c = search needs
-
-slice-aggregate-put-4 : tie.Need-slice-aggregate-put-4
-slice-aggregate-put-4 c = search needs
-
-put-requires-2 : tie.Need-put-requires-2
-put-requires-2 c κs = search needs
-
-array-write-header : tie.Need-array-write-header
-array-write-header c = search needs
-
-header-crc-requires : tie.Need-header-crc-requires
-header-crc-requires c κs = search needs
-
-little-endian-requires-3 : tie.Need-little-endian-requires-3
-little-endian-requires-3 c κs = search needs
-
-slice-aggregate-put-5 : tie.Need-slice-aggregate-put-5
-slice-aggregate-put-5 c = search needs
-
-slice-aggregate-put-6 : tie.Need-slice-aggregate-put-6
-slice-aggregate-put-6 c = search needs
-
 put-requires-3 : tie.Need-put-requires-3
 put-requires-3 c κs = simp length-set (omega arith)
 
@@ -77,18 +38,18 @@ pub header-bytes-spec : {M : Type 1} → statement M
 header-bytes-spec =
     tie.close
     (tie.spec
-    little-endian-requires
-    slice-aggregate-put
-    slice-aggregate-put-2
-    put-requires
-    little-endian-requires-2
-    slice-aggregate-put-3
-    slice-aggregate-put-4
-    put-requires-2
-    array-write-header
-    header-crc-requires
-    little-endian-requires-3
-    slice-aggregate-put-5
-    slice-aggregate-put-6
+    (λ c κs. search needs)
+    (λ c. search needs)
+    (λ c. search needs)
+    (λ c κs. search needs)
+    (λ c κs. search needs)
+    (λ c. search needs)
+    (λ c. search needs)
+    (λ c κs. search needs)
+    (λ c. search needs)
+    (λ c κs. search needs)
+    (λ c κs. search needs)
+    (λ c. search needs)
+    (λ c. search needs)
     put-requires-3
     returns)

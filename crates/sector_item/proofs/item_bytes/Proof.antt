@@ -12,51 +12,6 @@ use Rattle.sector.proofs.Laws.{over}
 use Rattle.sector_item.proofs.item_bytes.Statement.{statement}
 use Rattle.sector_item.proofs.item_bytes.Tie as tie
 
-array-write-entry : tie.Need-array-write-entry
-array-write-entry c = search needs
-
-array-write-entry-2 : tie.Need-array-write-entry-2
-array-write-entry-2 c = search needs
-
-array-write-entry-3 : tie.Need-array-write-entry-3
-array-write-entry-3 c = search needs
-
-array-write-entry-4 : tie.Need-array-write-entry-4
-array-write-entry-4 c = search needs
-
-slice-aggregate-put : tie.Need-slice-aggregate-put
-slice-aggregate-put c = search needs
-
-slice-aggregate-put-2 : tie.Need-slice-aggregate-put-2
-slice-aggregate-put-2 c = search needs
-
-put-requires : tie.Need-put-requires
-put-requires c κs = search needs
-
-slice-aggregate-put-3 : tie.Need-slice-aggregate-put-3
-slice-aggregate-put-3 c = search needs
-
-slice-aggregate-put-4 : tie.Need-slice-aggregate-put-4
-slice-aggregate-put-4 c = search needs
-
-put-requires-2 : tie.Need-put-requires-2
-put-requires-2 c κs = search needs
-
-item-crc-requires : tie.Need-item-crc-requires
-item-crc-requires c κs = search needs
-
-little-endian-requires : tie.Need-little-endian-requires
-little-endian-requires c κs = search needs
-
-slice-aggregate-put-5 : tie.Need-slice-aggregate-put-5
-slice-aggregate-put-5 c = search needs
-
-slice-aggregate-put-6 : tie.Need-slice-aggregate-put-6
-slice-aggregate-put-6 c = search needs
-
-put-requires-3 : tie.Need-put-requires-3
-put-requires-3 c κs = search needs
-
 -- an entry of these four bytes, key and data, its CRC still 0
 abbrev blankCrc : ℕ → ℕ → ℕ → ℕ → List ℕ → List ℕ → List ℕ
 blankCrc namespace kind span chunk key bytes = namespace ∷ kind ∷ span ∷ chunk ∷ 0 ∷ 0 ∷ 0 ∷ 0 ∷ (key ++ bytes)
@@ -91,19 +46,19 @@ pub item-bytes-spec : {M : Type 1} → statement M
 item-bytes-spec =
     tie.close
     (tie.spec
-    array-write-entry
-    array-write-entry-2
-    array-write-entry-3
-    array-write-entry-4
-    slice-aggregate-put
-    slice-aggregate-put-2
-    put-requires
-    slice-aggregate-put-3
-    slice-aggregate-put-4
-    put-requires-2
-    item-crc-requires
-    little-endian-requires
-    slice-aggregate-put-5
-    slice-aggregate-put-6
-    put-requires-3
+    (λ c. search needs)
+    (λ c. search needs)
+    (λ c. search needs)
+    (λ c. search needs)
+    (λ c. search needs)
+    (λ c. search needs)
+    (λ c κs. search needs)
+    (λ c. search needs)
+    (λ c. search needs)
+    (λ c κs. search needs)
+    (λ c κs. search needs)
+    (λ c κs. search needs)
+    (λ c. search needs)
+    (λ c. search needs)
+    (λ c κs. search needs)
     returns)

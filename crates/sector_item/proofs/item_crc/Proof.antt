@@ -12,38 +12,11 @@ use Rattle.sector.proofs.Laws.{over, over-both}
 use Rattle.sector_item.proofs.item_crc.Statement.{statement}
 use Rattle.sector_item.proofs.item_crc.Tie as tie
 
-slice-aggregate-put : tie.Need-slice-aggregate-put
-slice-aggregate-put c = search needs
-
-array-share-prefix-entry : tie.Need-array-share-prefix-entry
-array-share-prefix-entry c = search needs
-
 slice-aggregate-put-2 : tie.Need-slice-aggregate-put-2
 slice-aggregate-put-2 c = simp length-take (omega arith)
 
 put-requires : tie.Need-put-requires
 put-requires c κs = simp length-take (omega arith)
-
-slice-aggregate-put-3 : tie.Need-slice-aggregate-put-3
-slice-aggregate-put-3 c = search needs
-
-sub-put : tie.Need-sub-put
-sub-put c = search needs
-
-part-put-start : tie.Need-part-put-start
-part-put-start c = search needs
-
-part-put-end : tie.Need-part-put-end
-part-put-end c = search needs
-
-put-requires-2 : tie.Need-put-requires-2
-put-requires-2 c κs = search needs
-
-slice-aggregate-crc32 : tie.Need-slice-aggregate-crc32
-slice-aggregate-crc32 c = search needs
-
-crc32-requires : tie.Need-crc32-requires
-crc32-requires c κs = search needs
 
 -- after both copies, the bytes that the CRC covers
 covered : (c : tie.After-put2)
@@ -65,15 +38,15 @@ pub item-crc-spec : {M : Type 1} → statement M
 item-crc-spec =
     tie.close
     (tie.spec
-    slice-aggregate-put
-    array-share-prefix-entry
+    (λ c. search needs)
+    (λ c. search needs)
     slice-aggregate-put-2
     put-requires
-    slice-aggregate-put-3
-    sub-put
-    part-put-start
-    part-put-end
-    put-requires-2
-    slice-aggregate-crc32
-    crc32-requires
+    (λ c. search needs)
+    (λ c. search needs)
+    (λ c. search needs)
+    (λ c. search needs)
+    (λ c κs. search needs)
+    (λ c. search needs)
+    (λ c κs. search needs)
     returns)

@@ -13,9 +13,6 @@ returns : tie.Need-returns
 unfolding entryState
 returns c = rw (le-ltb _ 126 (c .if1 .taken))
 
-state-at-requires : tie.Need-state-at-requires
-state-at-requires c κs = search needs
-
 returns-2 : tie.Need-returns-2
 unfolding entryState
 returns-2 c =
@@ -23,4 +20,4 @@ returns-2 c =
     (ap {B = StateAnswer} (λ (s : EntryMapState). record { answer = Done; state = s }) (c .state-at .ensures))
 
 pub get-entry-state-spec : {M : Type 1} → statement M
-get-entry-state-spec = tie.close (tie.spec returns state-at-requires returns-2)
+get-entry-state-spec = tie.close (tie.spec returns (λ c κs. search needs) returns-2)

@@ -22,20 +22,11 @@ loop-holds : tie.Need-loop-holds Inv-loop μ-loop
 unfolding counted countIn
 loop-holds c = (omega arith, refl)
 
-array-read-with-byte : tie.Need-array-read-with-byte Inv-loop μ-loop
-array-read-with-byte c = search needs
-
 with-byte-requires : tie.Need-with-byte-requires Inv-loop μ-loop
 with-byte-requires c κs =
     let at = c .before .loop in
     let sum = ap inAll (at .inv .1) ∙ inAll-countedTo (c .before .before .args .t1) (omega arith) (at .i) (omega arith) in
     omega (arith, sum)
-
-add-i : tie.Need-add-i Inv-loop μ-loop
-add-i c = search needs
-
-loop-less : tie.Need-loop-less Inv-loop μ-loop
-loop-less c = search needs
 
 loop-again : tie.Need-loop-again Inv-loop μ-loop
 loop-again c =
@@ -46,9 +37,6 @@ loop-again c =
           ∙ ap (λ (s : Statistics). counted s (unpack (getD map (at .i) 0 ∷ []))) (at .inv .1)
           ∙ countedTo-next map (omega arith) (at .i) (omega arith),
     )
-
-array-read-last : tie.Need-array-read-last Inv-loop μ-loop
-array-read-last c = search needs
 
 with-entry-requires : tie.Need-with-entry-requires Inv-loop μ-loop
 with-entry-requires c κs =
@@ -85,12 +73,12 @@ get-entry-statistics-spec =
     Inv-loop
     μ-loop
     loop-holds
-    array-read-with-byte
+    (λ c. search needs)
     with-byte-requires
-    add-i
-    loop-less
+    (λ c. search needs)
+    (λ c. search needs)
     loop-again
-    array-read-last
+    (λ c. search needs)
     with-entry-requires
     with-entry-requires-2
     returns)

@@ -8,23 +8,8 @@ use Rattle.sector.proofs.Laws.{bits-le}
 use Rattle.sector_map.proofs.mark_mask.Statement.{statement}
 use Rattle.sector_map.proofs.mark_mask.Tie as tie
 
-bits-of-requires : tie.Need-bits-of-requires
-bits-of-requires c κs = search needs
-
 sub-result : tie.Need-sub-result
 sub-result c = omega (arith, c .bits-of .ensures, bits-le (c .before .args .state))
-
-mul-result : tie.Need-mul-result
-mul-result c = search needs
-
-cast-result : tie.Need-cast-result
-cast-result c = search needs
-
-shl-result : tie.Need-shl-result
-shl-result c = search needs
-
-sub-result-2 : tie.Need-sub-result-2
-sub-result-2 c = search needs
 
 -- what a state clears of a pair stays within the byte
 shifted : (m k : ℕ) → m ≤ 3 → k < 4 → m * 2 ^ (2 * k) % 256 ≡ m * 4 ^ k
@@ -40,4 +25,4 @@ returns c = rw (c .bits-of .ensures, shifted (3 - bitsOf (c .before .args .state
 pub mark-mask-spec : {M : Type 1} → statement M
 mark-mask-spec =
     tie.close
-    (tie.spec bits-of-requires sub-result mul-result cast-result shl-result sub-result-2 returns)
+    (tie.spec (λ c κs. search needs) sub-result (λ c. search needs) (λ c. search needs) (λ c. search needs) (λ c. search needs) returns)

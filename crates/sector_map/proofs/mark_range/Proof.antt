@@ -18,29 +18,11 @@ Inv-loop state index span out₀ i₀ i-end out i =
 abbrev μ-loop : tie.MeasureT-loop
 μ-loop state index span out₀ i₀ i-end out i = i-end - i
 
-add-i-end : tie.Need-add-i-end Inv-loop μ-loop
-add-i-end c = search needs
-
 loop-holds : tie.Need-loop-holds Inv-loop μ-loop
 loop-holds c =
     let z = c .args in
     let all : z .index + z .span - z .index ≡ z .span = omega arith in
     (omega arith, search needs, ap (λ (n : ℕ). markRange (z .state) (z .index) n (z .map)) all)
-
-array-read-out : tie.Need-array-read-out Inv-loop μ-loop
-array-read-out c = search needs
-
-mark-mask-requires : tie.Need-mark-mask-requires Inv-loop μ-loop
-mark-mask-requires c κs = search needs
-
-array-write-out : tie.Need-array-write-out Inv-loop μ-loop
-array-write-out c = search needs
-
-add-i : tie.Need-add-i Inv-loop μ-loop
-add-i c = search needs
-
-loop-less : tie.Need-loop-less Inv-loop μ-loop
-loop-less c = search needs
 
 loop-again : tie.Need-loop-again Inv-loop μ-loop
 unfolding markRange
@@ -71,12 +53,12 @@ mark-range-spec =
     (tie.spec
     Inv-loop
     μ-loop
-    add-i-end
+    (λ c. search needs)
     loop-holds
-    array-read-out
-    mark-mask-requires
-    array-write-out
-    add-i
-    loop-less
+    (λ c. search needs)
+    (λ c κs. search needs)
+    (λ c. search needs)
+    (λ c. search needs)
+    (λ c. search needs)
     loop-again
     returns)

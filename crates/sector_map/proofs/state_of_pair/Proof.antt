@@ -12,15 +12,6 @@ use Rattle.sector_map.proofs.state_of_pair.Tie as tie
 found : (byte pair bits : ℕ) → byte / 2 ^ (2 * pair) % 4 ≡ bits → stateOfBits bits ≡ stateOfBits (byte / 4 ^ pair % 4)
 found byte pair bits e = ap stateOfBits (sym e ∙ ap (λ (unit : ℕ). byte / unit % 4) (pow-four pair))
 
-mul-match : tie.Need-mul-match
-mul-match c = search needs
-
-cast-match : tie.Need-cast-match
-cast-match c = search needs
-
-shr-match : tie.Need-shr-match
-shr-match c = search needs
-
 returns : tie.Need-returns
 returns c = found (c .before .args .byte) (c .before .args .pair) 0 (c .match .keys1)
 
@@ -38,4 +29,4 @@ returns-4 c =
 
 pub state-of-pair-spec : {M : Type 1} → statement M
 state-of-pair-spec =
-    tie.close (tie.spec mul-match cast-match shr-match returns returns-2 returns-3 returns-4)
+    tie.close (tie.spec (λ c. search needs) (λ c. search needs) (λ c. search needs) returns returns-2 returns-3 returns-4)

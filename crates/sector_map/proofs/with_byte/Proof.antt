@@ -29,9 +29,6 @@ three c =
     ∙ ap (λ (s : Statistics). counted s (stateOfBits (z .byte / 16 % 4) ∷ [])) (two (c .before))
     ∙ counted-append (z .counts) (stateOfBits (z .byte % 4) ∷ stateOfBits (z .byte / 4 % 4) ∷ []) (stateOfBits (z .byte / 16 % 4) ∷ [])
 
-with-entry-requires : tie.Need-with-entry-requires
-with-entry-requires c κs = search needs
-
 with-entry-requires-2 : tie.Need-with-entry-requires-2
 with-entry-requires-2 c κs =
     let start = c .before in
@@ -63,7 +60,7 @@ pub with-byte-spec : {M : Type 1} → statement M
 with-byte-spec =
     tie.close
     (tie.spec
-    with-entry-requires
+    (λ c κs. search needs)
     with-entry-requires-2
     with-entry-requires-3
     with-entry-requires-4

@@ -5,26 +5,14 @@ use Rattle.sector_map.proofs.Laws.{counted-entry}
 use Rattle.sector_map.proofs.with_entry.Statement.{statement}
 use Rattle.sector_map.proofs.with_entry.Tie as tie
 
-one-if-requires : tie.Need-one-if-requires
-one-if-requires c κs = search needs
-
 add-t4 : tie.Need-add-t4
 add-t4 c = omega (arith, c .before .one-if .ensures .1, c .before .before .pre .1)
-
-one-if-requires-2 : tie.Need-one-if-requires-2
-one-if-requires-2 c κs = search needs
 
 add-t6 : tie.Need-add-t6
 add-t6 c = omega (arith, c .before .one-if2 .ensures .1, c .before .before .before .before .pre .1)
 
-one-if-requires-3 : tie.Need-one-if-requires-3
-one-if-requires-3 c κs = search needs
-
 add-t8 : tie.Need-add-t8
 add-t8 c = omega (arith, c .before .one-if3 .ensures .1, c .before .before .before .before .before .before .pre .1)
-
-one-if-requires-4 : tie.Need-one-if-requires-4
-one-if-requires-4 c κs = search needs
 
 add-t10 : tie.Need-add-t10
 add-t10 c = omega (arith, c .before .one-if4 .ensures .1, c .before .before .before .before .before .before .before .before .pre .1)
@@ -43,12 +31,12 @@ pub with-entry-spec : {M : Type 1} → statement M
 with-entry-spec =
     tie.close
     (tie.spec
-    one-if-requires
+    (λ c κs. search needs)
     add-t4
-    one-if-requires-2
+    (λ c κs. search needs)
     add-t6
-    one-if-requires-3
+    (λ c κs. search needs)
     add-t8
-    one-if-requires-4
+    (λ c κs. search needs)
     add-t10
     returns)

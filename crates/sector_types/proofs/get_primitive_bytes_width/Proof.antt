@@ -10,16 +10,10 @@ use Rattle.sector.specs.Types.{itemType, kindOf, primitiveWidth, widthOf}
 use Rattle.sector_types.proofs.get_primitive_bytes_width.Statement.{statement}
 use Rattle.sector_types.proofs.get_primitive_bytes_width.Tie as tie
 
-kind-of-requires : tie.Need-kind-of-requires
-kind-of-requires c κs = search needs
-
 -- the width that was read is that of the byte's type
 width : (c : tie.After-kind-of) → c .kind-of .result .width ≡ widthOf (itemType (c .before .args .byte))
 unfolding kindOf
 width c = ap (λ (kind : Kind). kind .width) (c .kind-of .ensures)
-
-type-byte-requires : tie.Need-type-byte-requires
-type-byte-requires c κs = search needs
 
 returns : tie.Need-returns
 unfolding primitiveWidth
@@ -35,4 +29,4 @@ returns-2 c =
 
 pub get-primitive-bytes-width-spec : {M : Type 1} → statement M
 get-primitive-bytes-width-spec =
-    tie.close (tie.spec kind-of-requires type-byte-requires returns returns-2)
+    tie.close (tie.spec (λ c κs. search needs) (λ c κs. search needs) returns returns-2)

@@ -6,15 +6,9 @@ use Rattle.sector.specs.Types.{byteOf, kindOf}
 use Rattle.sector_types.proofs.type_byte.Statement.{statement}
 use Rattle.sector_types.proofs.type_byte.Tie as tie
 
-kind-of-requires : tie.Need-kind-of-requires
-kind-of-requires c κs = search needs
-
-byte-of-requires : tie.Need-byte-of-requires
-byte-of-requires c κs = search needs
-
 returns : tie.Need-returns
 unfolding kindOf
 returns c = c .byte-of .ensures ∙ ap (λ (kind : Kind). byteOf (kind .named)) (c .before .kind-of .ensures)
 
 pub type-byte-spec : {M : Type 1} → statement M
-type-byte-spec = tie.close (tie.spec kind-of-requires byte-of-requires returns)
+type-byte-spec = tie.close (tie.spec (λ c κs. search needs) (λ c κs. search needs) returns)

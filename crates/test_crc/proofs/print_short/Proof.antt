@@ -10,33 +10,15 @@ Inv-loop bytes count₀ count = Unit
 abbrev μ-loop : tie.MeasureT-loop
 μ-loop bytes count₀ count = 41 - count
 
-loop-holds : tie.Need-loop-holds Inv-loop μ-loop
-loop-holds c = search needs
-
-print-first-requires : tie.Need-print-first-requires Inv-loop μ-loop
-print-first-requires c κs = search needs
-
-add-count : tie.Need-add-count Inv-loop μ-loop
-add-count c = search needs
-
-loop-less : tie.Need-loop-less Inv-loop μ-loop
-loop-less c = search needs
-
-loop-again : tie.Need-loop-again Inv-loop μ-loop
-loop-again c = search needs
-
-returns : tie.Need-returns Inv-loop μ-loop
-returns c = search needs
-
 pub print-short-spec : {M : Type 1} → statement M
 print-short-spec =
     tie.close
     (tie.spec
     Inv-loop
     μ-loop
-    loop-holds
-    print-first-requires
-    add-count
-    loop-less
-    loop-again
-    returns)
+    (λ c. search needs)
+    (λ c κs. search needs)
+    (λ c. search needs)
+    (λ c. search needs)
+    (λ c. search needs)
+    (λ c. search needs))

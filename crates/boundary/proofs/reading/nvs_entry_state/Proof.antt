@@ -31,21 +31,6 @@ returns-2 c =
     given-bad (badAnswer buffer || wrongSize 32 map) buffer (entryState map (z .index) .answer) (bitsOf (entryState map (z .index) .state)) (zeroItem) (noCounts)
     (second-wrong (badAnswer buffer) (wrongSize 32 map) (right-size 57 buffer (c .before .if1 .left)) (wrong-size 32 map (c .if2 .taken)))
 
-array-32-requires : tie.Need-array-32-requires
-array-32-requires c κs = search needs
-
-get-entry-state-requires : tie.Need-get-entry-state-requires
-get-entry-state-requires c κs = search needs
-
-bits-of-requires : tie.Need-bits-of-requires
-bits-of-requires c κs = search needs
-
-give-number-requires : tie.Need-give-number-requires
-give-number-requires c κs = search needs
-
-same-length : tie.Need-same-length
-same-length c = search needs
-
 returns-3 : tie.Need-returns-3
 unfolding stateGiven
 returns-3 c =
@@ -71,9 +56,9 @@ nvs-entry-state-spec =
     (tie.spec
     returns
     returns-2
-    array-32-requires
-    get-entry-state-requires
-    bits-of-requires
-    give-number-requires
-    same-length
+    (λ c κs. search needs)
+    (λ c κs. search needs)
+    (λ c κs. search needs)
+    (λ c κs. search needs)
+    (λ c. search needs)
     returns-3)

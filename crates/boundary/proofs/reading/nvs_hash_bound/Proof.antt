@@ -42,21 +42,6 @@ returns-3 c =
     given-bad ((badAnswer buffer || wrongSize 32 map) || wrongSize 4032 entries) buffer (Done) (hashBound map (chunks 126 entries)) (zeroItem) (noCounts)
     (second-wrong (badAnswer buffer || wrongSize 32 map) (wrongSize 4032 entries) (both-right (badAnswer buffer) (wrongSize 32 map) (right-size 57 buffer (c .before .before .if1 .left)) (right-size 32 map (c .before .if2 .left))) (wrong-size 4032 entries (c .if3 .taken)))
 
-array-32-requires : tie.Need-array-32-requires
-array-32-requires c κs = search needs
-
-entries-of-requires : tie.Need-entries-of-requires
-entries-of-requires c κs = search needs
-
-hashed-item-bound-requires : tie.Need-hashed-item-bound-requires
-hashed-item-bound-requires c κs = search needs
-
-give-number-requires : tie.Need-give-number-requires
-give-number-requires c κs = search needs
-
-same-length : tie.Need-same-length
-same-length c = search needs
-
 returns-4 : tie.Need-returns-4
 unfolding boundGiven
 returns-4 c =
@@ -83,9 +68,9 @@ nvs-hash-bound-spec =
     returns
     returns-2
     returns-3
-    array-32-requires
-    entries-of-requires
-    hashed-item-bound-requires
-    give-number-requires
-    same-length
+    (λ c κs. search needs)
+    (λ c κs. search needs)
+    (λ c κs. search needs)
+    (λ c κs. search needs)
+    (λ c. search needs)
     returns-4)

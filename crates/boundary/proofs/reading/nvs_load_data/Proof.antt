@@ -21,18 +21,6 @@ returns c =
     let both = given-bad (badAnswer buffer) buffer (answer .answer) (answer .size) zeroItem noCounts bad in
     (both .0, (rw bad, both .1))
 
-load-referenced-data-into-requires : tie.Need-load-referenced-data-into-requires
-load-referenced-data-into-requires c κs = search needs
-
-give-number-requires : tie.Need-give-number-requires
-give-number-requires c κs = search needs
-
-same-length : tie.Need-same-length
-same-length c = search needs
-
-same-length-2 : tie.Need-same-length-2
-same-length-2 c = search needs
-
 returns-2 : tie.Need-returns-2
 unfolding dataGiven dataLeft
 returns-2 c =
@@ -55,8 +43,8 @@ nvs-load-data-spec =
     tie.close
     (tie.spec
     returns
-    load-referenced-data-into-requires
-    give-number-requires
-    same-length
-    same-length-2
+    (λ c κs. search needs)
+    (λ c κs. search needs)
+    (λ c. search needs)
+    (λ c. search needs)
     returns-2)

@@ -29,18 +29,6 @@ returns-2 c =
     given-bad (badAnswer buffer || wrongSize 32 map) buffer (Done) (0) (zeroItem) (statistics map)
     (second-wrong (badAnswer buffer) (wrongSize 32 map) (right-size 57 buffer (c .before .if1 .left)) (wrong-size 32 map (c .if2 .taken)))
 
-array-32-requires : tie.Need-array-32-requires
-array-32-requires c κs = search needs
-
-get-entry-statistics-requires : tie.Need-get-entry-statistics-requires
-get-entry-statistics-requires c κs = search needs
-
-put-answer-requires : tie.Need-put-answer-requires
-put-answer-requires c κs = search needs
-
-same-length : tie.Need-same-length
-same-length c = search needs
-
 returns-3 : tie.Need-returns-3
 unfolding statisticsGiven
 returns-3 c =
@@ -63,8 +51,8 @@ nvs-statistics-spec =
     (tie.spec
     returns
     returns-2
-    array-32-requires
-    get-entry-statistics-requires
-    put-answer-requires
-    same-length
+    (λ c κs. search needs)
+    (λ c κs. search needs)
+    (λ c κs. search needs)
+    (λ c. search needs)
     returns-3)

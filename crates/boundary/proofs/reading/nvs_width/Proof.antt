@@ -18,18 +18,6 @@ returns c =
     given-bad (badAnswer buffer) buffer (primitiveWidth (z .byte) .answer) (primitiveWidth (z .byte) .width) (zeroItem) (noCounts)
     (wrong-size 57 buffer (c .if1 .taken))
 
-get-primitive-bytes-width-requires : tie.Need-get-primitive-bytes-width-requires
-get-primitive-bytes-width-requires c κs = search needs
-
-cast-give-number : tie.Need-cast-give-number
-cast-give-number c = search needs
-
-give-number-requires : tie.Need-give-number-requires
-give-number-requires c κs = search needs
-
-same-length : tie.Need-same-length
-same-length c = search needs
-
 returns-2 : tie.Need-returns-2
 unfolding widthGiven
 returns-2 c =
@@ -48,8 +36,8 @@ nvs-width-spec =
     tie.close
     (tie.spec
     returns
-    get-primitive-bytes-width-requires
-    cast-give-number
-    give-number-requires
-    same-length
+    (λ c κs. search needs)
+    (λ c. search needs)
+    (λ c κs. search needs)
+    (λ c. search needs)
     returns-2)

@@ -11,12 +11,6 @@ use Rattle.boundary.proofs.sums.nvs_hash.Tie as tie
 returns : tie.Need-returns
 returns c = rw (wrong-size 16 (c .before .before .args .key .now) (c .if1 .taken))
 
-array-16-requires : tie.Need-array-16-requires
-array-16-requires c κs = search needs
-
-calculate-hash-requires : tie.Need-calculate-hash-requires
-calculate-hash-requires c κs = search needs
-
 returns-2 : tie.Need-returns-2
 returns-2 c =
     let array = c .before in
@@ -26,4 +20,4 @@ returns-2 c =
     (c .calculate-hash .ensures ∙ ap (λ (key : List ℕ). hashOf (z .namespace) key (z .chunk)) (array .array-16 .ensures))
 
 pub nvs-hash-spec : {M : Type 1} → statement M
-nvs-hash-spec = tie.close (tie.spec returns array-16-requires calculate-hash-requires returns-2)
+nvs-hash-spec = tie.close (tie.spec returns (λ c κs. search needs) (λ c κs. search needs) returns-2)

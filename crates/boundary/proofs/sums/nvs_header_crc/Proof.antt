@@ -9,12 +9,6 @@ use Rattle.boundary.proofs.sums.nvs_header_crc.Tie as tie
 returns : tie.Need-returns
 returns c = rw (wrong-size 32 (c .before .before .args .bytes .now) (c .if1 .taken))
 
-array-32-requires : tie.Need-array-32-requires
-array-32-requires c κs = search needs
-
-header-crc-requires : tie.Need-header-crc-requires
-header-crc-requires c κs = search needs
-
 returns-2 : tie.Need-returns-2
 returns-2 c =
     let array = c .before in
@@ -23,4 +17,4 @@ returns-2 c =
     (c .header-crc .ensures ∙ ap headerCrc (array .array-32 .ensures))
 
 pub nvs-header-crc-spec : {M : Type 1} → statement M
-nvs-header-crc-spec = tie.close (tie.spec returns array-32-requires header-crc-requires returns-2)
+nvs-header-crc-spec = tie.close (tie.spec returns (λ c κs. search needs) (λ c κs. search needs) returns-2)

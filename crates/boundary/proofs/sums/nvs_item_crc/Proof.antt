@@ -9,12 +9,6 @@ use Rattle.boundary.proofs.sums.nvs_item_crc.Tie as tie
 returns : tie.Need-returns
 returns c = rw (wrong-size 32 (c .before .before .args .bytes .now) (c .if1 .taken))
 
-array-32-requires : tie.Need-array-32-requires
-array-32-requires c κs = search needs
-
-item-crc-requires : tie.Need-item-crc-requires
-item-crc-requires c κs = search needs
-
 returns-2 : tie.Need-returns-2
 returns-2 c =
     let array = c .before in
@@ -23,4 +17,4 @@ returns-2 c =
     (c .item-crc .ensures ∙ ap itemCrc (array .array-32 .ensures))
 
 pub nvs-item-crc-spec : {M : Type 1} → statement M
-nvs-item-crc-spec = tie.close (tie.spec returns array-32-requires item-crc-requires returns-2)
+nvs-item-crc-spec = tie.close (tie.spec returns (λ c κs. search needs) (λ c κs. search needs) returns-2)

@@ -52,27 +52,6 @@ returns-3 c =
     left-bad ((badRecordSize buffer || wrongSize 16 key) || wrongSize 8 bytes) image buffer (appendSingle image page item (z .stop)) (appendSingleImage image page item (z .stop))
     (second-wrong (badRecordSize buffer || wrongSize 16 key) (wrongSize 8 bytes) (both-right (badRecordSize buffer) (wrongSize 16 key) (right-size 675 buffer (c .before .before .if1 .left)) (right-size 16 key (c .before .if2 .left))) (wrong-size 8 bytes (c .if3 .taken)))
 
-array-16-requires : tie.Need-array-16-requires
-array-16-requires c κs = search needs
-
-array-8-requires : tie.Need-array-8-requires
-array-8-requires c κs = search needs
-
-record-of-requires : tie.Need-record-of-requires
-record-of-requires c κs = search needs
-
-write-item-requires : tie.Need-write-item-requires
-write-item-requires c κs = search needs
-
-hand-back-requires : tie.Need-hand-back-requires
-hand-back-requires c κs = search needs
-
-same-length : tie.Need-same-length
-same-length c = search needs
-
-same-length-2 : tie.Need-same-length-2
-same-length-2 c = search needs
-
 returns-4 : tie.Need-returns-4
 unfolding singleLeft
 returns-4 c =
@@ -101,11 +80,11 @@ nvs-append-single-spec =
     returns
     returns-2
     returns-3
-    array-16-requires
-    array-8-requires
-    record-of-requires
-    write-item-requires
-    hand-back-requires
-    same-length
-    same-length-2
+    (λ c κs. search needs)
+    (λ c κs. search needs)
+    (λ c κs. search needs)
+    (λ c κs. search needs)
+    (λ c κs. search needs)
+    (λ c. search needs)
+    (λ c. search needs)
     returns-4)

@@ -36,24 +36,6 @@ returns-2 c =
     left-bad (badRecordSize buffer || wrongSize 16 key) image buffer (appendVariable image page item (z .payload .now) (z .stop)) (appendVariableImage image page item (z .payload .now) (z .stop))
     (second-wrong (badRecordSize buffer) (wrongSize 16 key) (right-size 675 buffer (c .before .if1 .left)) (wrong-size 16 key (c .if2 .taken)))
 
-array-16-requires : tie.Need-array-16-requires
-array-16-requires c κs = search needs
-
-record-of-requires : tie.Need-record-of-requires
-record-of-requires c κs = search needs
-
-write-variable-sized-item-requires : tie.Need-write-variable-sized-item-requires
-write-variable-sized-item-requires c κs = search needs
-
-hand-back-requires : tie.Need-hand-back-requires
-hand-back-requires c κs = search needs
-
-same-length : tie.Need-same-length
-same-length c = search needs
-
-same-length-2 : tie.Need-same-length-2
-same-length-2 c = search needs
-
 returns-3 : tie.Need-returns-3
 unfolding variableLeft
 returns-3 c =
@@ -80,10 +62,10 @@ nvs-append-variable-spec =
     (tie.spec
     returns
     returns-2
-    array-16-requires
-    record-of-requires
-    write-variable-sized-item-requires
-    hand-back-requires
-    same-length
-    same-length-2
+    (λ c κs. search needs)
+    (λ c κs. search needs)
+    (λ c κs. search needs)
+    (λ c κs. search needs)
+    (λ c. search needs)
+    (λ c. search needs)
     returns-3)

@@ -13,24 +13,6 @@ returns : tie.Need-returns
 unfolding openLeft
 returns c = rw (wrong-size 675 (c .before .before .before .args .buffer .now) (c .if1 .taken)) (refl, (refl, refl))
 
-open-page-requires : tie.Need-open-page-requires
-open-page-requires c κs = search needs
-
-put-record-requires : tie.Need-put-record-requires
-put-record-requires c κs = search needs
-
-number-of-requires : tie.Need-number-of-requires
-number-of-requires c κs = search needs
-
-cast-result : tie.Need-cast-result
-cast-result c = search needs
-
-same-length : tie.Need-same-length
-same-length c = search needs
-
-same-length-2 : tie.Need-same-length-2
-same-length-2 c = search needs
-
 returns-2 : tie.Need-returns-2
 unfolding openLeft
 returns-2 c =
@@ -47,10 +29,10 @@ nvs-open-spec =
     tie.close
     (tie.spec
     returns
-    open-page-requires
-    put-record-requires
-    number-of-requires
-    cast-result
-    same-length
-    same-length-2
+    (λ c κs. search needs)
+    (λ c κs. search needs)
+    (λ c κs. search needs)
+    (λ c. search needs)
+    (λ c. search needs)
+    (λ c. search needs)
     returns-2)

@@ -5,18 +5,6 @@ use Rattle.sector.specs.Answers.{numberOf}
 use Rattle.boundary.proofs.writing.nvs_purge.Statement.{statement}
 use Rattle.boundary.proofs.writing.nvs_purge.Tie as tie
 
-purge-entries-requires : tie.Need-purge-entries-requires
-purge-entries-requires c κs = search needs
-
-number-of-requires : tie.Need-number-of-requires
-number-of-requires c κs = search needs
-
-cast-result : tie.Need-cast-result
-cast-result c = search needs
-
-same-length : tie.Need-same-length
-same-length c = search needs
-
 returns : tie.Need-returns
 returns c =
     let purged = c .before .before .before in
@@ -24,4 +12,4 @@ returns c =
 
 pub nvs-purge-spec : {M : Type 1} → statement M
 nvs-purge-spec =
-    tie.close (tie.spec purge-entries-requires number-of-requires cast-result same-length returns)
+    tie.close (tie.spec (λ c κs. search needs) (λ c κs. search needs) (λ c. search needs) (λ c. search needs) returns)

@@ -16,24 +16,6 @@ abbrev μ-loop : tie.MeasureT-loop
 within : (c : tie.After-last-alike Inv-loop μ-loop) → c .last-alike .result ≤ c .before .before .before .before .before .args .units
 within c = c .last-alike .ensures .0 .1 (search needs)
 
-loop-holds : tie.Need-loop-holds Inv-loop μ-loop
-loop-holds c = search needs
-
-last-alike-requires : tie.Need-last-alike-requires Inv-loop μ-loop
-last-alike-requires c κs = search needs
-
-found-after-requires : tie.Need-found-after-requires Inv-loop μ-loop
-found-after-requires c κs = search needs
-
-range-requires : tie.Need-range-requires Inv-loop μ-loop
-range-requires c κs = search needs
-
-is-otherwise-requires : tie.Need-is-otherwise-requires Inv-loop μ-loop
-is-otherwise-requires c κs = search needs
-
-sub-otherwise : tie.Need-sub-otherwise Inv-loop μ-loop
-sub-otherwise c = search needs
-
 add-otherwise : tie.Need-add-otherwise Inv-loop μ-loop
 add-otherwise c = let last = within (c .before .before .before .before) in omega arith
 
@@ -43,14 +25,8 @@ add-otherwise-2 c = let last = within (c .before .before .before .before) in ome
 add-n : tie.Need-add-n Inv-loop μ-loop
 add-n c = let last = within (c .before .before .before .before) in omega arith
 
-loop-less : tie.Need-loop-less Inv-loop μ-loop
-loop-less c = search needs
-
 loop-again : tie.Need-loop-again Inv-loop μ-loop
 loop-again c = let last = within (c .before .before .before .before) in ⊎-elim (λ w. (omega arith, omega arith)) (λ w. (omega arith, omega arith)) (c .if1 .came)
-
-returns : tie.Need-returns Inv-loop μ-loop
-returns c = search needs
 
 pub ranges-spec : {M : Type 1} → statement M
 ranges-spec =
@@ -58,15 +34,15 @@ ranges-spec =
     (tie.spec
     Inv-loop
     μ-loop
-    loop-holds
-    last-alike-requires
-    found-after-requires
-    range-requires
-    is-otherwise-requires
-    sub-otherwise
+    (λ c. search needs)
+    (λ c κs. search needs)
+    (λ c κs. search needs)
+    (λ c κs. search needs)
+    (λ c κs. search needs)
+    (λ c. search needs)
     add-otherwise
     add-otherwise-2
     add-n
-    loop-less
+    (λ c. search needs)
     loop-again
-    returns)
+    (λ c. search needs))

@@ -37,18 +37,6 @@ header-crc : (c : tie.After-crc32)
 unfolding headerCrc
 header-crc c = sym (c .crc32 .ensures)
 
-number-at-requires : tie.Need-number-at-requires
-number-at-requires c κs = search needs
-
-state-of-word-requires : tie.Need-state-of-word-requires
-state-of-word-requires c κs = search needs
-
-is-uninitialized-requires : tie.Need-is-uninitialized-requires
-is-uninitialized-requires c κs = search needs
-
-all-ones-requires : tie.Need-all-ones-requires
-all-ones-requires c κs = search needs
-
 returns : tie.Need-returns
 unfolding headerVerdictOf
 returns c =
@@ -67,17 +55,11 @@ returns-2 c =
       uninitialized-shut (stateOfWord (stateWord image)) erased,
     )
 
-is-open-requires : tie.Need-is-open-requires
-is-open-requires c κs = search needs
-
 returns-3 : tie.Need-returns-3
 unfolding headerVerdictOf
 returns-3 c =
     let begun = c .before .before in
     rw (uninitialized (begun .before) ∙ begun .if1 .left, opens (c .before) ∙ not-true (c .before .is-open .result) (c .if3 .taken))
-
-shared-slice-read-if4 : tie.Need-shared-slice-read-if4
-shared-slice-read-if4 c = search needs
 
 returns-4 : tie.Need-returns-4
 unfolding headerVerdictOf
@@ -90,21 +72,6 @@ returns-4 c =
       opens (opened .before) ∙ not-false (opened .before .is-open .result) (opened .if3 .left),
       ne-eqb (versionOf image) 0xFE (c .if4 .taken),
     )
-
-sub-crc32 : tie.Need-sub-crc32
-sub-crc32 c = search needs
-
-part-crc32-start : tie.Need-part-crc32-start
-part-crc32-start c = search needs
-
-part-crc32-end : tie.Need-part-crc32-end
-part-crc32-end c = search needs
-
-crc32-requires : tie.Need-crc32-requires
-crc32-requires c κs = search needs
-
-number-at-requires-2 : tie.Need-number-at-requires-2
-number-at-requires-2 c κs = search needs
 
 returns-5 : tie.Need-returns-5
 unfolding headerVerdictOf
@@ -140,20 +107,20 @@ pub header-verdict-spec : {M : Type 1} → statement M
 header-verdict-spec =
     tie.close
     (tie.spec
-    number-at-requires
-    state-of-word-requires
-    is-uninitialized-requires
-    all-ones-requires
+    (λ c κs. search needs)
+    (λ c κs. search needs)
+    (λ c κs. search needs)
+    (λ c κs. search needs)
     returns
     returns-2
-    is-open-requires
+    (λ c κs. search needs)
     returns-3
-    shared-slice-read-if4
+    (λ c. search needs)
     returns-4
-    sub-crc32
-    part-crc32-start
-    part-crc32-end
-    crc32-requires
-    number-at-requires-2
+    (λ c. search needs)
+    (λ c. search needs)
+    (λ c. search needs)
+    (λ c κs. search needs)
+    (λ c κs. search needs)
     returns-5
     returns-6)

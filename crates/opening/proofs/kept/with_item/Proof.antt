@@ -5,29 +5,8 @@ use Rattle.sector.specs.Layout.{namespaceOf}
 use Rattle.opening.proofs.kept.with_item.Statement.{statement}
 use Rattle.opening.proofs.kept.with_item.Tie as tie
 
-array-read-if1 : tie.Need-array-read-if1
-array-read-if1 c = search needs
-
 returns : tie.Need-returns
 returns c = rw (eq-eqb (namespaceOf (c .before .args .t2)) 0 (c .if1 .taken))
-
-hash-of-item-requires : tie.Need-hash-of-item-requires
-hash-of-item-requires c κs = search needs
-
-cast-t10 : tie.Need-cast-t10
-cast-t10 c = search needs
-
-cast-list : tie.Need-cast-list
-cast-list c = search needs
-
-mul-list : tie.Need-mul-list
-mul-list c = search needs
-
-array-set-from-list : tie.Need-array-set-from-list
-array-set-from-list c = search needs
-
-add-t10 : tie.Need-add-t10
-add-t10 c = search needs
 
 returns-2 : tie.Need-returns-2
 returns-2 c =
@@ -38,12 +17,12 @@ pub with-item-spec : {M : Type 1} → statement M
 with-item-spec =
     tie.close
     (tie.spec
-    array-read-if1
+    (λ c. search needs)
     returns
-    hash-of-item-requires
-    cast-t10
-    cast-list
-    mul-list
-    array-set-from-list
-    add-t10
+    (λ c κs. search needs)
+    (λ c. search needs)
+    (λ c. search needs)
+    (λ c. search needs)
+    (λ c. search needs)
+    (λ c. search needs)
     returns-2)

@@ -72,21 +72,6 @@ listed : (c : tie.After-walk)
 unfolding keptItems
 listed c = c .walk .ensures .3 ∙ rw (map-read (c .before))
 
-map-of-requires : tie.Need-map-of-requires
-map-of-requires c κs = search needs
-
-walk-requires : tie.Need-walk-requires
-walk-requires c κs = search needs
-
-shut-before-tail-requires : tie.Need-shut-before-tail-requires
-shut-before-tail-requires c κs = search needs
-
-first-pass-requires : tie.Need-first-pass-requires
-first-pass-requires c κs = search needs
-
-record-of-requires : tie.Need-record-of-requires
-record-of-requires c κs = search needs
-
 returns : tie.Need-returns
 unfolding openedPage recordOf
 returns c =
@@ -103,9 +88,9 @@ pub changes-spec : {M : Type 1} → statement M
 changes-spec =
     tie.close
     (tie.spec
-    map-of-requires
-    walk-requires
-    shut-before-tail-requires
-    first-pass-requires
-    record-of-requires
+    (λ c κs. search needs)
+    (λ c κs. search needs)
+    (λ c κs. search needs)
+    (λ c κs. search needs)
+    (λ c κs. search needs)
     returns)

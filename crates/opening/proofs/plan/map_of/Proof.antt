@@ -16,24 +16,6 @@ Inv-loop image map₀ k₀ map k = (k ≤ 32) × (map ≡ take k (drop 32 image)
 abbrev μ-loop : tie.MeasureT-loop
 μ-loop image map₀ k₀ map k = 32 - k
 
-loop-holds : tie.Need-loop-holds Inv-loop μ-loop
-loop-holds c = search needs
-
-add-map : tie.Need-add-map Inv-loop μ-loop
-add-map c = search needs
-
-shared-slice-read-map : tie.Need-shared-slice-read-map Inv-loop μ-loop
-shared-slice-read-map c = search needs
-
-array-write-map : tie.Need-array-write-map Inv-loop μ-loop
-array-write-map c = search needs
-
-add-k : tie.Need-add-k Inv-loop μ-loop
-add-k c = search needs
-
-loop-less : tie.Need-loop-less Inv-loop μ-loop
-loop-less c = search needs
-
 loop-again : tie.Need-loop-again Inv-loop μ-loop
 loop-again c =
     let at = c .before .before .loop in
@@ -53,11 +35,11 @@ map-of-spec =
     (tie.spec
     Inv-loop
     μ-loop
-    loop-holds
-    add-map
-    shared-slice-read-map
-    array-write-map
-    add-k
-    loop-less
+    (λ c. search needs)
+    (λ c. search needs)
+    (λ c. search needs)
+    (λ c. search needs)
+    (λ c. search needs)
+    (λ c. search needs)
     loop-again
     returns)

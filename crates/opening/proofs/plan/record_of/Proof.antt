@@ -17,29 +17,11 @@ counted c =
     let map = c .before .before .before .before .before .before .args .map in
     rw (← c .get-entry-statistics .ensures) at (statistics-sum map (omega arith))
 
-number-at-requires : tie.Need-number-at-requires
-number-at-requires c κs = search needs
-
-state-of-word-requires : tie.Need-state-of-word-requires
-state-of-word-requires c κs = search needs
-
-number-at-requires-2 : tie.Need-number-at-requires-2
-number-at-requires-2 c κs = search needs
-
-number-at-requires-3 : tie.Need-number-at-requires-3
-number-at-requires-3 c κs = search needs
-
-get-entry-statistics-requires : tie.Need-get-entry-statistics-requires
-get-entry-statistics-requires c κs = search needs
-
 cast-used : tie.Need-cast-used
 cast-used c = omega (arith, counted (c .before))
 
 cast-erased : tie.Need-cast-erased
 cast-erased c = omega (arith, counted (c .before .before))
-
-shared-slice-read-t13 : tie.Need-shared-slice-read-t13
-shared-slice-read-t13 c = search needs
 
 returns : tie.Need-returns
 unfolding recordOf statistics
@@ -57,12 +39,12 @@ pub record-of-spec : {M : Type 1} → statement M
 record-of-spec =
     tie.close
     (tie.spec
-    number-at-requires
-    state-of-word-requires
-    number-at-requires-2
-    number-at-requires-3
-    get-entry-statistics-requires
+    (λ c κs. search needs)
+    (λ c κs. search needs)
+    (λ c κs. search needs)
+    (λ c κs. search needs)
+    (λ c κs. search needs)
     cast-used
     cast-erased
-    shared-slice-read-t13
+    (λ c. search needs)
     returns)

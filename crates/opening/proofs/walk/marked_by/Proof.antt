@@ -11,35 +11,17 @@ refused-fits c = rw (c .verdict .given .1) at (c .before .before .pre)
 kept-fits : (c : tie.After-verdict2) → c .before .before .args .index + c .verdict2 .given .0 .0 < 126
 kept-fits c = rw (c .verdict2 .given .1) at (c .before .before .pre)
 
-enum-told : tie.Need-enum-told
-enum-told c = search needs
-
-enum-told-2 : tie.Need-enum-told-2
-enum-told-2 c = search needs
-
-mark-range-requires : tie.Need-mark-range-requires
-mark-range-requires c κs = search needs
-
-enum-known-verdict : tie.Need-enum-known-verdict
-enum-known-verdict c = search needs
-
 add-mark-range : tie.Need-add-mark-range
 add-mark-range c = omega (arith, refused-fits (c .before))
 
 mark-range-requires-2 : tie.Need-mark-range-requires-2
 mark-range-requires-2 c κs = omega (arith, refused-fits (c .before))
 
-enum-known-verdict-2 : tie.Need-enum-known-verdict-2
-enum-known-verdict-2 c = search needs
-
 add-mark-range-2 : tie.Need-add-mark-range-2
 add-mark-range-2 c = omega (arith, kept-fits (c .before))
 
 mark-range-requires-3 : tie.Need-mark-range-requires-3
 mark-range-requires-3 c κs = omega (arith, kept-fits (c .before))
-
-returns : tie.Need-returns
-returns c = search needs
 
 returns-2 : tie.Need-returns-2
 returns-2 c = rw (c .before .enum-told2 .given .1) (c .mark-range .ensures)
@@ -54,16 +36,16 @@ pub marked-by-spec : {M : Type 1} → statement M
 marked-by-spec =
     tie.close
     (tie.spec
-    enum-told
-    enum-told-2
-    mark-range-requires
-    enum-known-verdict
+    (λ c. search needs)
+    (λ c. search needs)
+    (λ c κs. search needs)
+    (λ c. search needs)
     add-mark-range
     mark-range-requires-2
-    enum-known-verdict-2
+    (λ c. search needs)
     add-mark-range-2
     mark-range-requires-3
-    returns
+    (λ c. search needs)
     returns-2
     returns-3
     returns-4)

@@ -20,9 +20,6 @@ Inv-loop image map marked₀ heads₀ listing₀ index₀ marked heads listing i
 abbrev μ-loop : tie.MeasureT-loop
 μ-loop image map marked₀ heads₀ listing₀ index₀ marked heads listing index = 126 - index
 
-empty-requires : tie.Need-empty-requires Inv-loop μ-loop
-empty-requires c κs = search needs
-
 long : (c : tie.Start Inv-loop μ-loop) → length (c .args .map) ≡ 32
 long c = c .good .1 .0 .1 .0 .1
 
@@ -43,28 +40,13 @@ loop-holds c =
     let map = start .args .map in
     (search needs, marked-start image map (long start) (bytes-of-array map _ (start .good .1 .0 .1 .1)), heads-start image map, rw (c .empty .ensures) (listed-start image map))
 
-verdict-at-requires : tie.Need-verdict-at-requires Inv-loop μ-loop
-verdict-at-requires c κs = search needs
-
 marked-by-requires : tie.Need-marked-by-requires Inv-loop μ-loop
 marked-by-requires c κs = fits c
-
-is-refused-item-requires : tie.Need-is-refused-item-requires Inv-loop μ-loop
-is-refused-item-requires c κs = search needs
-
-array-write-heads : tie.Need-array-write-heads Inv-loop μ-loop
-array-write-heads c = search needs
 
 listed-by-requires : tie.Need-listed-by-requires Inv-loop μ-loop
 listed-by-requires c κs =
     let within = c .before .before .before .before .loop .inv .3 .within in
     search needs
-
-add-index : tie.Need-add-index Inv-loop μ-loop
-add-index c = search needs
-
-steps-over-requires : tie.Need-steps-over-requires Inv-loop μ-loop
-steps-over-requires c κs = search needs
 
 add-index-2 : tie.Need-add-index-2 Inv-loop μ-loop
 add-index-2 c =
@@ -114,15 +96,15 @@ walk-spec =
     (tie.spec
     Inv-loop
     μ-loop
-    empty-requires
+    (λ c κs. search needs)
     loop-holds
-    verdict-at-requires
+    (λ c κs. search needs)
     marked-by-requires
-    is-refused-item-requires
-    array-write-heads
+    (λ c κs. search needs)
+    (λ c. search needs)
     listed-by-requires
-    add-index
-    steps-over-requires
+    (λ c. search needs)
+    (λ c κs. search needs)
     add-index-2
     loop-less
     loop-again

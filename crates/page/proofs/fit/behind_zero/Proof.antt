@@ -21,15 +21,6 @@ abbrev μ-loop : tie.MeasureT-loop
 loop-holds : tie.Need-loop-holds Inv-loop μ-loop
 loop-holds c = (search needs, refl)
 
-mul-place : tie.Need-mul-place Inv-loop μ-loop
-mul-place c = search needs
-
-array-copy-out-place : tie.Need-array-copy-out-place Inv-loop μ-loop
-array-copy-out-place c = search needs
-
-place-zero-requires : tie.Need-place-zero-requires Inv-loop μ-loop
-place-zero-requires c κs = search needs
-
 returns : tie.Need-returns Inv-loop μ-loop
 returns c =
     let at = c .before .before .before .before in
@@ -37,12 +28,6 @@ returns c =
     let long = at .before .good .0 .1 .0 .1 in
     sym (every-drop-false placeZero list (at .loop .k) noItem (omega arith) (sym (c .before .place-zero .ensures) ∙ not-true _ (c .if1 .taken)))
     ∙ at .loop .inv .1
-
-add-k : tie.Need-add-k Inv-loop μ-loop
-add-k c = search needs
-
-loop-less : tie.Need-loop-less Inv-loop μ-loop
-loop-less c = search needs
 
 loop-again : tie.Need-loop-again Inv-loop μ-loop
 loop-again c =
@@ -67,11 +52,11 @@ behind-zero-spec =
     Inv-loop
     μ-loop
     loop-holds
-    mul-place
-    array-copy-out-place
-    place-zero-requires
+    (λ c. search needs)
+    (λ c. search needs)
+    (λ c κs. search needs)
     returns
-    add-k
-    loop-less
+    (λ c. search needs)
+    (λ c. search needs)
     loop-again
     returns-2)

@@ -5,19 +5,10 @@ use borrow.Author.Tests.{not-false}
 use Rattle.page.proofs.fit.blank_fits.Statement.{statement}
 use Rattle.page.proofs.fit.blank_fits.Tie as tie
 
-is-uninitialized-requires : tie.Need-is-uninitialized-requires
-is-uninitialized-requires c κs = search needs
-
-returns : tie.Need-returns
-returns c = search needs
-
-is-blank-requires : tie.Need-is-blank-requires
-is-blank-requires c κs = search needs
-
 returns-2 : tie.Need-returns-2
 returns-2 c =
     rw (sym (c .before .before .is-uninitialized .ensures) ∙ not-false _ (c .before .if1 .left)) (c .is-blank .ensures)
 
 pub blank-fits-spec : {M : Type 1} → statement M
 blank-fits-spec =
-    tie.close (tie.spec is-uninitialized-requires returns is-blank-requires returns-2)
+    tie.close (tie.spec (λ c κs. search needs) (λ c. search needs) (λ c κs. search needs) returns-2)

@@ -38,53 +38,26 @@ past-listed : (c : tie.Else4)
 past-listed c =
     past-written (c .before .before .before) ∙ rw (sym (c .before .listed-fit .ensures) ∙ not-false _ (c .if4 .left))
 
-cast-next-free : tie.Need-cast-next-free
-cast-next-free c = search needs
-
-cast-next-free-2 : tie.Need-cast-next-free-2
-cast-next-free-2 c = search needs
-
-add-next-free : tie.Need-add-next-free
-add-next-free c = search needs
-
 returns : tie.Need-returns
 unfolding fitToUse
 returns c = rw (lt-leb _ _ (c .if1 .taken))
 
-cast-len : tie.Need-cast-len
-cast-len c = search needs
-
 returns-2 : tie.Need-returns-2
 unfolding fitToUse
 returns-2 c = rw (le-leb _ _ (c .before .before .if1 .left), lt-leb _ _ (c .if2 .taken))
-
-get-entry-statistics-requires : tie.Need-get-entry-statistics-requires
-get-entry-statistics-requires c κs = search needs
-
-cast-if3 : tie.Need-cast-if3
-cast-if3 c = search needs
 
 returns-3 : tie.Need-returns-3
 returns-3 c =
     let counted = c .before .before .before in
     rw (past-counts (counted .before .before), written counted, lt-leb _ _ (c .if3 .taken))
 
-listed-fit-requires : tie.Need-listed-fit-requires
-listed-fit-requires c κs = search needs
-
 returns-4 : tie.Need-returns-4
 returns-4 c =
     rw (past-written (c .before .before .before), sym (c .before .listed-fit .ensures) ∙ not-true _ (c .if4 .taken))
 
-behind-zero-requires : tie.Need-behind-zero-requires
-behind-zero-requires c κs = search needs
-
 returns-5 : tie.Need-returns-5
 returns-5 c =
     rw (past-listed (c .before .before), sym (c .before .behind-zero .ensures) ∙ not-true _ (c .if5 .taken))
-
-blank-fits-requires : tie.Need-blank-fits-requires
-blank-fits-requires c κs = search needs
 
 returns-6 : tie.Need-returns-6
 returns-6 c =
@@ -95,18 +68,18 @@ pub fit-to-use-spec : {M : Type 1} → statement M
 fit-to-use-spec =
     tie.close
     (tie.spec
-    cast-next-free
-    cast-next-free-2
-    add-next-free
+    (λ c. search needs)
+    (λ c. search needs)
+    (λ c. search needs)
     returns
-    cast-len
+    (λ c. search needs)
     returns-2
-    get-entry-statistics-requires
-    cast-if3
+    (λ c κs. search needs)
+    (λ c. search needs)
     returns-3
-    listed-fit-requires
+    (λ c κs. search needs)
     returns-4
-    behind-zero-requires
+    (λ c κs. search needs)
     returns-5
-    blank-fits-requires
+    (λ c κs. search needs)
     returns-6)

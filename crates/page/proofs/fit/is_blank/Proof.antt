@@ -54,9 +54,6 @@ returns-6 c =
       ne-eqb _ _ (c .if6 .taken),
     )
 
-map-is-blank-requires : tie.Need-map-is-blank-requires
-map-is-blank-requires c κs = search needs
-
 returns-7 : tie.Need-returns-7
 returns-7 c =
     let past6 = c .before .before in
@@ -84,5 +81,5 @@ is-blank-spec =
     returns-4
     returns-5
     returns-6
-    map-is-blank-requires
+    (λ c κs. search needs)
     returns-7)

@@ -5,15 +5,9 @@ use Rattle.recorded_file.specs.Buffers.{sizeOf}
 use Rattle.recorded_file.proofs.buffers.size_of.Statement.{statement}
 use Rattle.recorded_file.proofs.buffers.size_of.Tie as tie
 
-mul-result : tie.Need-mul-result
-mul-result c = search needs
-
-array-read-result : tie.Need-array-read-result
-array-read-result c = search needs
-
 returns : tie.Need-returns
 unfolding sizeOf
 returns c = refl
 
 pub size-of-spec : {M : Type 1} → statement M
-size-of-spec = tie.close (tie.spec mul-result array-read-result returns)
+size-of-spec = tie.close (tie.spec (λ c. search needs) (λ c. search needs) returns)

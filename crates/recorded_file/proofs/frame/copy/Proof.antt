@@ -9,38 +9,11 @@ use Rattle.sector.specs.Layout.{field}
 use Rattle.recorded_file.proofs.frame.copy.Statement.{statement}
 use Rattle.recorded_file.proofs.frame.copy.Tie as tie
 
-buffer-requires : tie.Need-buffer-requires
-buffer-requires c κs = search needs
-
-add-end : tie.Need-add-end
-add-end c = search needs
-
-slice-aggregate-put : tie.Need-slice-aggregate-put
-slice-aggregate-put c = search needs
-
-sub-put : tie.Need-sub-put
-sub-put c = search needs
-
-part-put-start : tie.Need-part-put-start
-part-put-start c = search needs
-
-part-put-end : tie.Need-part-put-end
-part-put-end c = search needs
-
-put-requires : tie.Need-put-requires
-put-requires c κs = search needs
-
-array-share-prefix-bytes : tie.Need-array-share-prefix-bytes
-array-share-prefix-bytes c = search needs
-
 slice-aggregate-put-2 : tie.Need-slice-aggregate-put-2
 slice-aggregate-put-2 c = rw length-take (omega arith)
 
 put-requires-2 : tie.Need-put-requires-2
 put-requires-2 c κs = rw length-take (omega arith)
-
-same-length : tie.Need-same-length
-same-length c = search needs
 
 returns : tie.Need-returns
 returns c =
@@ -58,15 +31,15 @@ pub copy-spec : {M : Type 1} → statement M
 copy-spec =
     tie.close
     (tie.spec
-    buffer-requires
-    add-end
-    slice-aggregate-put
-    sub-put
-    part-put-start
-    part-put-end
-    put-requires
-    array-share-prefix-bytes
+    (λ c κs. search needs)
+    (λ c. search needs)
+    (λ c. search needs)
+    (λ c. search needs)
+    (λ c. search needs)
+    (λ c. search needs)
+    (λ c κs. search needs)
+    (λ c. search needs)
     slice-aggregate-put-2
     put-requires-2
-    same-length
+    (λ c. search needs)
     returns)

@@ -20,18 +20,6 @@ abbrev μ-loop : tie.MeasureT-loop
 loop-holds : tie.Need-loop-holds Inv-loop μ-loop
 loop-holds c = (search needs, paste-zero (c .args .all .now) (c .args .at) (replicate (c .args .size) (c .args .byte)), search needs)
 
-add-all : tie.Need-add-all Inv-loop μ-loop
-add-all c = search needs
-
-slice-write-all : tie.Need-slice-write-all Inv-loop μ-loop
-slice-write-all c = search needs
-
-add-k : tie.Need-add-k Inv-loop μ-loop
-add-k c = search needs
-
-loop-less : tie.Need-loop-less Inv-loop μ-loop
-loop-less c = search needs
-
 loop-again : tie.Need-loop-again Inv-loop μ-loop
 loop-again c =
     let z = c .before .before .args in
@@ -46,9 +34,6 @@ loop-again c =
           ∙ ap (paste (z .all .now) (z .at) bytes) (sym (add-one (l .k))),
       simp length-set (l .inv .2),
     )
-
-same-length : tie.Need-same-length Inv-loop μ-loop
-same-length c = search needs
 
 returns : tie.Need-returns Inv-loop μ-loop
 returns c =
@@ -65,10 +50,10 @@ fill-spec =
     Inv-loop
     μ-loop
     loop-holds
-    add-all
-    slice-write-all
-    add-k
-    loop-less
+    (λ c. search needs)
+    (λ c. search needs)
+    (λ c. search needs)
+    (λ c. search needs)
     loop-again
-    same-length
+    (λ c. search needs)
     returns)

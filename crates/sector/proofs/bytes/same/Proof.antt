@@ -21,20 +21,8 @@ returns c = sym (same-bytes-length (c .before .args .first .now) (c .before .arg
 loop-holds : tie.Need-loop-holds Inv-loop μ-loop
 loop-holds c = (search needs, refl)
 
-shared-slice-read-if2 : tie.Need-shared-slice-read-if2 Inv-loop μ-loop
-shared-slice-read-if2 c = search needs
-
-shared-slice-read-if2-2 : tie.Need-shared-slice-read-if2-2 Inv-loop μ-loop
-shared-slice-read-if2-2 c = search needs
-
 returns-2 : tie.Need-returns-2 Inv-loop μ-loop
 returns-2 c = let at = c .before .before .before .before in let start = at .before .before in sym (same-bytes-differ (start .args .first .now) (start .args .second .now) (at .loop .i) (omega arith) (omega arith) (c .if2 .taken)) ∙ at .loop .inv .1
-
-add-i : tie.Need-add-i Inv-loop μ-loop
-add-i c = search needs
-
-loop-less : tie.Need-loop-less Inv-loop μ-loop
-loop-less c = search needs
 
 loop-again : tie.Need-loop-again Inv-loop μ-loop
 loop-again c = let at = c .before .before .before .before in let start = at .before .before in (omega arith, sym (same-bytes-pass (start .args .first .now) (start .args .second .now) (at .loop .i) (omega arith) (omega arith) (c .if2 .left)) ∙ at .loop .inv .1)
@@ -50,10 +38,10 @@ same-spec =
     μ-loop
     returns
     loop-holds
-    shared-slice-read-if2
-    shared-slice-read-if2-2
+    (λ c. search needs)
+    (λ c. search needs)
     returns-2
-    add-i
-    loop-less
+    (λ c. search needs)
+    (λ c. search needs)
     loop-again
     returns-3)
