@@ -1,5 +1,4 @@
 -- Laws of the boundary: what is given and left where a buffer's length is wrong, and where the call behind it has answered.
--- Assumes nothing.
 use mathlib.Core.Path.{_≡_, refl, ap, _∙_}
 use mathlib.Core.Bool.{Bool, true, false, _||_, not}
 use mathlib.Core.List.{List}

@@ -1,5 +1,4 @@
 -- Any two results that a C function's contract allows are equal, and so are the buffers that they leave (01, 'What the contracts have to say').
--- Assumes nothing.
 use mathlib.Core.Path.{_≡_}
 use mathlib.Core.List.{List}
 use Prim.Native.Nat.{ℕ}

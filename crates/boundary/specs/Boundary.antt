@@ -3,7 +3,6 @@
 -- In order: sizes; what a call with an answer leaves, and each such call; what a writing call leaves, and each such call.
 -- BadCall is for a buffer of fixed size that has another length. It is checked before everything else, and changes nothing.
 -- Not here: the calls that hand back a number alone, which say all in their contracts.
--- Assumes nothing.
 use mathlib.Core.Bool.{Bool, _||_, cond}
 use mathlib.Core.List.{List}
 use Prim.Native.Nat.{ℕ}

@@ -1,5 +1,4 @@
 -- Laws of the buffers: bytes laid behind others, the places of a list, and that a record and its bytes give each other back.
--- Assumes nothing.
 use mathlib.Core.Path.{_≡_, refl, sym, ap, ap₂, _∙_}
 use mathlib.Core.List.{List, [], _∷_, _++_, append-nil, append-assoc}
 use Prim.Native.Nat.{ℕ, zero, suc, _+_, _*_, _<_, _≤_}

@@ -1,5 +1,4 @@
 -- What a writing call leaves in its record's buffer.
--- Assumes nothing.
 use mathlib.Core.Bool.{cond}
 use mathlib.Core.List.{List}
 use Prim.Native.Nat.{ℕ}

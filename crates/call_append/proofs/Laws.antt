@@ -1,5 +1,4 @@
 -- Laws of appends: the checks that they share, and what accepted checks tell.
--- Assumes nothing.
 use mathlib.Core.Path.{_≡_}
 use mathlib.Core.Bool.{true}
 use mathlib.Core.List.{List, [], _∷_}

@@ -1,7 +1,6 @@
 -- Appends (01, 'Append single', 'Append variable'): checks in order, plan, new record.
 --
 -- In order: which types a call takes; append single; the namespace append; append variable.
--- Assumes nothing.
 use mathlib.Core.Bool.{Bool, true, false, _&&_, _||_, not}
 use mathlib.Core.List.{List, [], _∷_, _++_}
 use Prim.Native.Nat.{ℕ, _+_, _/_}

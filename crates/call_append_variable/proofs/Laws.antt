@@ -1,5 +1,4 @@
 -- What the accepted checks of appending data tell.
--- Assumes nothing.
 use mathlib.Core.Path.{_≡_}
 use mathlib.Core.Bool.{true}
 use mathlib.Core.List.{List, [], _∷_}

@@ -1,5 +1,4 @@
 -- Laws of copy in: what its checks leave known once they accept, and where the item's bytes lie in the source.
--- Assumes nothing.
 use mathlib.Core.Path.{_≡_, ap}
 use mathlib.Core.Bool.{true, false}
 use mathlib.Core.List.{List, _++_}

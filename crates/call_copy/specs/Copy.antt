@@ -1,7 +1,6 @@
 -- Copy in (01, 'Copy in'): checks in order, plan, new record.
 --
 -- Raw bytes are written, an unknown type byte included. A source image of another length is BadImage, before the record is looked at.
--- Assumes nothing.
 use mathlib.Core.Bool.{_||_, not}
 use mathlib.Core.List.{List, [], _∷_}
 use Prim.Native.Nat.{ℕ, _+_, _*_}

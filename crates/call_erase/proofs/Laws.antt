@@ -1,7 +1,6 @@
 -- Laws of erase.
 --
 -- In order: the list without an index; entries that are Written; what erase's checks leave known, and its plan.
--- Assumes nothing.
 use mathlib.Core.Path.{_≡_, refl, ap, _∙_}
 use mathlib.Core.Bool.{Bool, true, false, _&&_, cond}
 use mathlib.Core.List.{List, [], _∷_, _++_, append-nil}

@@ -1,6 +1,4 @@
 -- Erase (01, 'Erase'): checks in order, plan, new record.
---
--- Assumes nothing.
 use mathlib.Core.Bool.{Bool, true, false, _||_, not}
 use mathlib.Core.List.{List, [], _∷_}
 use Prim.Native.Nat.{ℕ, _+_}

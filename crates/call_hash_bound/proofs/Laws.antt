@@ -1,5 +1,4 @@
 -- Laws of the hash bound: entries to be passed are dropped, one turn of the walk, and how large it is.
--- Assumes nothing.
 use mathlib.Core.Path.{_≡_, refl, sym, ap, _∙_}
 use mathlib.Core.Bool.{Bool, true, false, cond, false≢true}
 use mathlib.Core.List.{List, [], _∷_}

@@ -1,5 +1,4 @@
 -- Any two results that a contract of this crate allows are equal, by what its callers learn.
--- Assumes nothing.
 use Rattle.sector.proofs.Unique.{OneResult, unique}
 use Rattle.call_hash_bound.proofs.hashed_item_bound.Kinds as hashed-item-bound-kinds
 use Rattle.call_hash_bound.proofs.hashed_item_bound.Reads as hashed-item-bound

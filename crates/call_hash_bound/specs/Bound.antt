@@ -1,6 +1,4 @@
 -- Hash bound (01, 'Hash bound'): the walk from header to header over the states and the entries side by side.
---
--- Assumes nothing.
 use mathlib.Core.Bool.{_&&_, cond}
 use mathlib.Core.List.{List, [], _∷_}
 use Prim.Native.Nat.{ℕ, zero, suc, _+_, _-_}

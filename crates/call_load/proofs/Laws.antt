@@ -1,5 +1,4 @@
 -- Laws of the readings: when a list of checks accepts, what the calls' checks leave known, and an entry's fields.
--- Assumes nothing.
 use mathlib.Core.Path.{_≡_, refl, sym, ap, _∙_}
 use mathlib.Core.Bool.{Bool, true, false, cond, false≢true}
 use mathlib.Core.List.{List, [], _∷_, _++_}

@@ -1,5 +1,4 @@
 -- Any two results that a contract of this crate allows are equal, by what its callers learn.
--- Assumes nothing.
 use Rattle.sector.proofs.Unique.{OneResult, unique}
 use Rattle.call_load.proofs.read_raw_entry.Kinds as read-raw-entry-kinds
 use Rattle.call_load.proofs.read_raw_entry.Reads as read-raw-entry

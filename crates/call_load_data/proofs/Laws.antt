@@ -1,5 +1,4 @@
 -- Laws of load data: its checks, what they leave known, and its copy.
--- Assumes nothing.
 use mathlib.Core.Path.{_≡_}
 use mathlib.Core.Bool.{true, false}
 use mathlib.Core.List.{List, _++_}

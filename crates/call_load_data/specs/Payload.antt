@@ -1,7 +1,6 @@
 -- Reading the data behind a header (01, 'Load data'): the item is loaded first, and the map is not consulted.
 --
 -- In order: the checks; the answer and the output. The payload CRC is not checked here.
--- Assumes nothing.
 use mathlib.Core.Bool.{not, cond}
 use mathlib.Core.List.{List, [], _∷_, _++_}
 use Prim.Native.Nat.{ℕ, _+_, _-_, _*_, _/_}

@@ -1,5 +1,4 @@
 -- Laws of the header calls: how many units mark as full has.
--- Assumes nothing.
 use mathlib.Core.Path.{_≡_, refl}
 use lib.ListN.{length}
 use Rattle.flash.proofs.Laws.{length-units-whole}

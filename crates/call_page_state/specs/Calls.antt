@@ -1,7 +1,6 @@
 -- Initialise and mark full (01, 'Calls, leaves first').
 --
 -- Each call: its checks in order, its plan, its new record; then what it hands back and what it leaves in the image.
--- Assumes nothing.
 use mathlib.Core.Bool.{false, not}
 use mathlib.Core.List.{List, [], _∷_}
 use Prim.Native.Nat.{ℕ}

@@ -1,5 +1,4 @@
 -- Purge (01, 'Purge'): entries are zeroed; no record is taken, and the map stays.
--- Assumes nothing.
 use mathlib.Core.Bool.{cond}
 use mathlib.Core.List.{List, [], _∷_}
 use Prim.Native.Nat.{ℕ, _-_, _*_, min, max}

@@ -1,5 +1,4 @@
 -- Laws of purge by namespace: the walk, and the entries that it marks, turn by turn.
--- Assumes nothing.
 use mathlib.Core.Path.{_≡_, sym}
 use mathlib.Core.Bool.{Bool, false, cond}
 use mathlib.Core.List.{List, [], _∷_, _++_, append-assoc}

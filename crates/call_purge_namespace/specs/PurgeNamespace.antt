@@ -1,7 +1,6 @@
 -- Purge by namespace (01, 'Purge'): entries are zeroed; the map and the record stay.
 --
 -- A list of entries to zero is read off the image as it comes; then their units.
--- Assumes nothing.
 use mathlib.Core.Bool.{Bool, false, _&&_, cond}
 use mathlib.Core.List.{List, [], _∷_, _++_}
 use Prim.Native.Nat.{ℕ, zero, suc, _-_}

@@ -1,5 +1,4 @@
 -- CRCs that antt computes from the definition: 01's vector, no bytes, and one CRC that goes on from another.
--- Assumes nothing.
 use mathlib.Core.Path.{_≡_, refl}
 use mathlib.Core.List.{[], _∷_}
 use Rattle.crc.specs.Crc.{shift, shifts, intake, register, crc32}

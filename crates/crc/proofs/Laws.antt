@@ -1,7 +1,6 @@
 -- Laws of the CRC: exclusive or, shifts, a digit of the register, a byte taken in, all bytes, the CRC.
 --
 -- The tables rest on `shifts-digit`, over the width of a digit, and a word on `register-number`, over the number of bytes. The nibbles that are looked up are in `Nibbles`.
--- Assumes nothing.
 use mathlib.Core.Path.{_≡_, refl, sym, ap, ap₂, _∙_}
 use mathlib.Core.List.{List, [], _∷_, _++_}
 use Prim.Native.Nat.{ℕ, zero, suc, _+_, _-_, _*_, _/_, _%_, _^_, _≤_, _<_}

@@ -1,5 +1,4 @@
 -- Laws of the nibbles that the code looks up: each is `shifts` of its value, and the eight of a word make up the word.
--- Assumes nothing.
 use mathlib.Core.Path.{_≡_, refl, sym, ap, ap₂, _∙_}
 use mathlib.Core.Bool.{Bool, true, false}
 use mathlib.Core.List.{List, [], _∷_, map}

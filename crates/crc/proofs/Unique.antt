@@ -1,5 +1,4 @@
 -- Any two results that a public call's contract allows are equal (01, 'What the contracts have to say'): what that says, and the call of this crate.
--- Assumes nothing.
 use mathlib.Core.Path.{_≡_, sym, _∙_}
 use mathlib.Core.List.{List}
 use Prim.Native.Nat.{ℕ}

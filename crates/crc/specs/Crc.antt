@@ -1,7 +1,6 @@
 -- CRC-32 (01, 'The sector'): the register starts as NOT start, the polynomial is 0xEDB88320 reflected, the answer is NOT register.
 --
 -- In order: one bit, several bits, one byte, all bytes, the CRC. The tables of the code are not here: they are values of `shifts`.
--- Assumes nothing.
 use mathlib.Core.List.{List, [], _∷_}
 use Prim.Native.Nat.{ℕ, zero, suc, _-_, _/_, _%_, _^_}
 use lib.Bits.{bitXor}

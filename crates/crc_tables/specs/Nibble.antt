@@ -2,7 +2,6 @@
 --
 -- In order: a single bit after its shifts; a number from the values of its bits; a nibble after its shifts; the number of bytes, lowest first.
 -- No public contract cites this file: `nibble-shifts` ties a nibble to `shifts`.
--- Assumes nothing.
 use mathlib.Core.List.{List, [], _∷_, _++_, map}
 use Prim.Native.Nat.{ℕ, zero, suc, _+_, _-_, _*_}
 use lib.Bits.{bitXor}

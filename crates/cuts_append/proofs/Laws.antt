@@ -1,6 +1,5 @@
 -- Laws of the comparisons: two lists from k on, place by place; runs of cuts that are found alike; the first number at which a test
 -- fails.
--- Assumes nothing.
 use mathlib.Core.Path.{_≡_, refl, ap, _∙_}
 use mathlib.Core.Bool.{Bool, true, false, _&&_, cond}
 use mathlib.Core.List.{List}

@@ -1,5 +1,4 @@
 -- The units that are counted are those of the plan: an append is stopped at n where no check refuses and n is below their number.
--- Assumes nothing.
 use mathlib.Core.Path.{_≡_, refl, sym, _∙_}
 use mathlib.Core.Bool.{Bool, true, false, _&&_, not, cond}
 use mathlib.Core.List.{List, [], _∷_, _++_}

@@ -2,7 +2,6 @@
 --
 -- In order: the append; the cut; how many units there are; the two sectors that a cut may leave, by their items and bytes; what was
 -- found; runs of cuts that are found alike; bytes for an item.
--- Assumes nothing.
 use mathlib.Core.Path.{_≡_}
 use mathlib.Core.Bool.{Bool, true, false, _&&_, cond}
 use mathlib.Core.List.{List, [], _∷_, _++_}

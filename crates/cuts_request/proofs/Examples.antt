@@ -1,5 +1,4 @@
 -- Words at both sides of an edge, by their definitions.
--- Assumes nothing.
 use mathlib.Core.Path.{_≡_, refl}
 use mathlib.Core.Bool.{true, false}
 use mathlib.Core.List.{[], _∷_}

@@ -1,5 +1,4 @@
 -- Laws of words: numbers digit by digit, and that none is over its bound.
--- Assumes nothing.
 use mathlib.Core.Path.{_≡_, refl}
 use mathlib.Core.Bool.{Bool, true, false, _&&_, cond}
 use mathlib.Core.List.{List, [], _∷_}

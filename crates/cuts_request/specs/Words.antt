@@ -2,7 +2,6 @@
 --
 -- In order: numbers; the key; the type by its number or its name; the value of a single entry; the request, or the first word that is wrong.
 -- A word is the list of its bytes. Not here: the files that the program reads.
--- Assumes nothing.
 use mathlib.Core.Bool.{Bool, true, false, _&&_, not, cond}
 use mathlib.Core.List.{List, [], _∷_, _++_}
 use Prim.Native.Nat.{ℕ, _+_, _-_, _*_}

@@ -2,7 +2,6 @@
 --
 -- In order: lists; bytes below 256; two tests, and tests of a whole list; bytes at an address; new bytes that only clear bits; the units of a write;
 -- units done one after the other; where units lie, and what they leave alone.
--- Assumes nothing.
 use mathlib.Core.Path.{_≡_, refl, sym, ap, ap₂, _∙_}
 use mathlib.Core.Bool.{Bool, true, false, _&&_, _||_, cond, false≢true, and-eq-true-iff, and-assoc}
 use mathlib.Core.List.{List, [], _∷_, _++_, append-assoc}

@@ -1,5 +1,4 @@
 -- What the walk's loop has done up to an index, and what is left of it: in the map, of the refused headers, of the list.
--- Assumes nothing.
 use mathlib.Core.Path.{_≡_, refl, sym, ap, ap₂, _∙_}
 use mathlib.Core.Bool.{Bool, true, false, and-eq-true-iff}
 use mathlib.Core.List.{List, [], _∷_, _++_, append-assoc, append-nil}

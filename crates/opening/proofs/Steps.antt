@@ -1,5 +1,4 @@
 -- The walk as a loop takes it, from index to index: k entries stepped over are k entries dropped.
--- Assumes nothing.
 use mathlib.Core.Path.{_≡_, refl, sym, ap, _∙_}
 use mathlib.Core.Bool.{Bool, true, false}
 use mathlib.Core.List.{List, [], _∷_, _++_}

@@ -1,7 +1,5 @@
 -- The steps that the code takes: what the verdict at an entry does to the map, and to the list of kept items; the record
 -- of a header, a map and a list.
---
--- Assumes nothing.
 use mathlib.Core.Bool.{cond}
 use mathlib.Core.List.{List, map}
 use Prim.Native.Nat.{ℕ, _+_}

@@ -1,5 +1,4 @@
 -- What is known of an array of bytes that a function is passed: each of its elements is a byte.
--- Assumes nothing.
 use mathlib.Core.List.{List, [], _∷_}
 use Prim.Native.Nat.{ℕ}
 use mir.Syntax.{w8}

@@ -3,7 +3,6 @@
 --
 -- The passes are so that a cut during opening, opened again, gives what one whole opening gives: first the upper bit of every entry
 -- that becomes Erased and is not the header of a refused payload item, then the new map. Only units that change are programmed.
--- Assumes nothing.
 use mathlib.Core.Bool.{Bool, _&&_, not, cond}
 use mathlib.Core.List.{List, [], _∷_, _++_, map}
 use Prim.Native.Nat.{ℕ, zero, suc, _+_, _*_}

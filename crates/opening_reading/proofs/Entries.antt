@@ -1,5 +1,4 @@
 -- The entries of an image, as the code meets them: the payload behind a header as one run of bytes; states and entries from one of them on.
--- Assumes nothing.
 use mathlib.Core.Path.{_≡_, refl, sym, ap, ap₂, _∙_}
 use mathlib.Core.List.{List, [], _∷_, _++_}
 use Prim.Native.Nat.{ℕ, zero, suc, _+_, _-_, _*_, _<_, _≤_}

@@ -3,7 +3,6 @@
 --
 -- In order: a state marked Written; states that come out alike behind the walk; the page midway; its walk comes out alike, and it keeps the same items.
 -- The theorems about opening twice, about a cut during opening and about the bytes of Erased entries each show that a page is midway.
--- Assumes nothing.
 use mathlib.Core.Path.{_≡_, refl, sym, ap, _∙_}
 use mathlib.Core.Bool.{true, false, _&&_}
 use mathlib.Core.List.{List, [], _∷_}

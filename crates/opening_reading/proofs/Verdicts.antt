@@ -1,7 +1,7 @@
 -- The verdict at a Written entry, by cases: the entry is refused, an item is refused, or an item is kept; each with the rules that decided.
 --
 -- In order: the rules of the header, and where else they let it stand; an item whole in its bytes; the three cases, and the verdict in each.
--- What a CRC is plays no part: the rules stay shut. Assumes nothing.
+-- What a CRC is plays no part: the rules stay shut.
 use mathlib.Core.Path.{_≡_, refl, _∙_}
 use mathlib.Core.Bool.{Bool, true, false, _||_, not}
 use mathlib.Core.List.{List, [], _∷_, _++_}

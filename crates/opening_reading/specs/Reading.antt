@@ -4,7 +4,6 @@
 -- the free tail; the states that opening leaves.
 -- States and entries are two lists side by side: opening changes states alone.
 -- Verdict and Reason are the code's own enums.
--- Assumes nothing.
 use mathlib.Core.Bool.{Bool, true, false, _&&_, _||_, not, cond}
 use mathlib.Core.List.{List, [], _∷_, _++_}
 use mathlib.Core.Option.{Option, none, some}

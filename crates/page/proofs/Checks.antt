@@ -1,5 +1,4 @@
 -- Laws of checks: when a list of them accepts, what more checks behind it change, and what a writing call then owes.
--- Assumes nothing.
 use mathlib.Core.Path.{_≡_, refl, sym, ap, _∙_}
 use mathlib.Core.Bool.{Bool, true, false, false≢true}
 use mathlib.Core.List.{List, [], _∷_, _++_}

@@ -1,5 +1,4 @@
 -- Laws of the record: tests of a list's places one by one, one place more in use, and fitness clause by clause.
--- Assumes nothing.
 use mathlib.Core.Path.{_≡_, sym, ap, _∙_}
 use mathlib.Core.Bool.{Bool, true, false, and-eq-true-iff}
 use mathlib.Core.List.{List, [], _∷_, _++_, append-assoc}

@@ -1,5 +1,4 @@
 -- Laws of plans: how many units a write has, and two parts of a plan done under one budget.
--- Assumes nothing.
 use mathlib.Core.Path.{_≡_, refl, sym, _∙_}
 use mathlib.Core.Bool.{Bool, true, false, cond}
 use mathlib.Core.List.{List, [], _++_}

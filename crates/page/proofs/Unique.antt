@@ -1,5 +1,4 @@
 -- Any two results that a contract of this crate allows are equal, by what its callers learn.
--- Assumes nothing.
 use Rattle.sector.proofs.Unique.{OneResult, unique}
 use Rattle.page.proofs.fit.fit_to_use.Kinds as fit-to-use-kinds
 use Rattle.page.proofs.fit.fit_to_use.Reads as fit-to-use

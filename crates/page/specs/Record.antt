@@ -1,7 +1,6 @@
 -- The record (01, 'The record'): next free, free, and when it is fit to use, a definition for each clause in 01's order.
 --
 -- In order: entries; the list of hashes; fitness; the Uninitialized record; the record after an item and after an erasure.
--- Assumes nothing.
 use mathlib.Core.Bool.{Bool, true, false, _&&_, _||_, not, cond}
 use mathlib.Core.List.{List, [], _∷_, _++_}
 use Prim.Native.Nat.{ℕ, _+_, _-_, _^_}

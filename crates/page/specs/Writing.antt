@@ -2,7 +2,6 @@
 --
 -- In order: the checks that calls share; what a call hands back and what it leaves in the image; the plan of an item.
 -- 1 to 10 change nothing; 11 leaves the first n units programmed and hands back the incoming record.
--- Assumes nothing.
 use mathlib.Core.Bool.{Bool, true, false, not, cond}
 use mathlib.Core.List.{List, [], _++_}
 use Prim.Native.Nat.{ℕ, _+_}

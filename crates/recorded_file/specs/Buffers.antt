@@ -1,7 +1,6 @@
 -- The seven buffers of a replay (compare/RECORDED.md), one behind the other in one list.
 --
 -- In order: the sizes of the whole and of what a call changes; where each buffer starts, and its size; that no two share a byte.
--- Assumes nothing.
 use mathlib.Core.Path.{_≡_, refl}
 use mathlib.Core.List.{[], _∷_}
 use Prim.Native.Nat.{ℕ, _+_}

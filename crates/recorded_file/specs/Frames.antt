@@ -1,7 +1,6 @@
 -- The frames that change a buffer (compare/RECORDED.md).
 --
 -- In order: a frame's fields out of its eight bytes; bytes laid over a place; fill; copy.
--- Assumes nothing.
 use Prim.Native.Nat.{ℕ, _+_}
 use mathlib.Core.List.{List, _++_}
 use lib.ListN.{length, take, drop, getD, replicate}

@@ -1,4 +1,4 @@
--- A number of two bytes; `sector` has the others (specs/Layout.antt). Assumes nothing.
+-- A number of two bytes; `sector` has the others (specs/Layout.antt).
 use Prim.Native.Nat.{ℕ, _+_}
 use mathlib.Core.List.{List, [], _∷_}
 use lib.ListN.{getD}

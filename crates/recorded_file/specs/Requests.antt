@@ -1,7 +1,6 @@
 -- The request of a call (compare/RECORDED.md, 'The request'): its numbers, out of 64 bytes.
 --
 -- Not here: the key, bytes 40..56, and the data of a single, bytes 56..64, which are no numbers.
--- Assumes nothing.
 use Prim.Native.Nat.{ℕ}
 use mathlib.Core.List.{List}
 use lib.ListN.{getD}

@@ -1,6 +1,5 @@
 -- Laws of the sector's definitions, in the order of specs/: Layout, Answers, Map, Item; behind Layout, bytes laid over others, repeated and copied.
 -- Not here: what a run of marks does to each state (Marks).
--- Assumes nothing.
 use mathlib.Core.Path.{_≡_, refl, sym, ap, _∙_}
 use mathlib.Core.Bool.{Bool, true, false, _&&_, not, cond, and-false, and-eq-true-iff}
 use mathlib.Core.List.{List, [], _∷_, _++_, append-nil}

@@ -2,7 +2,6 @@
 --
 -- In order: AND of two states; four states in a byte; all states of a map; new states that only clear bits; a range of states marked,
 -- and how many are Written then; the map's bytes marked; what the first units of a new map, and of a marked one, leave in an image.
--- Assumes nothing.
 use mathlib.Core.Path.{_≡_, refl, sym, ap, ap₂, _∙_}
 use mathlib.Core.Bool.{Bool, true, false, cond, false≢true}
 use mathlib.Core.List.{List, [], _∷_, _++_, append-assoc}

@@ -1,7 +1,6 @@
 -- Any two results that a public call's contract allows are equal (01, 'What the contracts have to say').
 --
 -- In order: the public functions of this crate, by what their callers learn; the codings that tell answers, states and types apart.
--- Assumes nothing.
 use mathlib.Core.Path.{_≡_, sym, ap, ap₂, _∙_}
 pub use Rattle.crc.proofs.Unique.{OneResult, OneOutcome, unique}
 use Rattle.sector.specs.declared.Answer.{Answer}

@@ -1,7 +1,6 @@
 -- What a call answers (01, 'Numbers that come back'): its number, and the byte that it carries.
 --
 -- In order: the answers, by their numbers and the byte carried, which tell every answer apart; checks in 01's order.
--- Assumes nothing.
 use mathlib.Core.Path.{_≡_, refl}
 use mathlib.Core.Bool.{Bool, true, false, cond}
 use mathlib.Core.List.{List, [], _∷_}

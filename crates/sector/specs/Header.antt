@@ -1,6 +1,4 @@
 -- The page header (01, 'The sector'): states and their words, its CRC, and the bytes of a new one.
---
--- Assumes nothing.
 use mathlib.Core.Path.{_≡_, refl}
 use mathlib.Core.Bool.{cond}
 use mathlib.Core.List.{List, [], _∷_, _++_}

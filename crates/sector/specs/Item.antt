@@ -1,6 +1,4 @@
 -- An item's header entry (01, 'The sector'): its CRC, its hash, and the bytes of a new one.
---
--- Assumes nothing.
 use mathlib.Core.Bool.{Bool, _&&_, not}
 use mathlib.Core.List.{List, [], _∷_, _++_}
 use Prim.Native.Nat.{ℕ, _%_, _^_}

@@ -2,7 +2,6 @@
 --
 -- In order: sizes; little-endian numbers; bytes compared; the parts of an image; the fields of an entry.
 -- An image is the list of its bytes. Not here: what the fields mean (Header, Map, Types, Item).
--- Assumes nothing.
 use mathlib.Core.Bool.{Bool, false, _&&_}
 use mathlib.Core.List.{List, [], _∷_}
 use Prim.Native.Nat.{ℕ, zero, suc, _+_, _*_, _/_, _%_}

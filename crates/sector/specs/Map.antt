@@ -1,7 +1,6 @@
 -- The entry map (01, 'The sector'): two bits an entry, entry i at bit 2 * (i mod 4) of map byte i / 4.
 --
 -- In order: the states and their bits; the state of an entry; all 126 states; what `get_entry_state` and `get_entry_statistics` answer; setting a range.
--- Assumes nothing.
 use mathlib.Core.Path.{_≡_, refl}
 use mathlib.Core.Bool.{Bool, cond}
 use mathlib.Core.List.{List, [], _∷_}

@@ -1,7 +1,6 @@
 -- Item types (01, 'The sector' and 'Type byte').
 --
 -- In order: the thirteen types and their bytes; what a byte decides; a primitive's width as an answer.
--- Assumes nothing.
 use mathlib.Core.Path.{_≡_, refl}
 use mathlib.Core.Bool.{Bool, true, false, cond}
 use mathlib.Core.List.{List, [], _∷_}

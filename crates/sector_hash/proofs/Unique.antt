@@ -1,5 +1,4 @@
 -- Any two results that a contract of this crate allows are equal, by what its callers learn.
--- Assumes nothing.
 use Rattle.sector.proofs.Unique.{OneResult, unique}
 use Rattle.sector_hash.proofs.calculate_hash.Kinds as calculate-hash-kinds
 use Rattle.sector_hash.proofs.calculate_hash.Reads as calculate-hash

@@ -1,5 +1,4 @@
 -- Any two results that a contract of this crate allows are equal, by what its callers learn.
--- Assumes nothing.
 use Rattle.sector.proofs.Unique.{OneResult, unique}
 use Rattle.sector_header.proofs.header_crc.Kinds as header-crc-kinds
 use Rattle.sector_header.proofs.header_crc.Reads as header-crc

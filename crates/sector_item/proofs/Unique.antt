@@ -1,5 +1,4 @@
 -- Any two results that a contract of this crate allows are equal, by what its callers learn.
--- Assumes nothing.
 use Rattle.sector.proofs.Unique.{OneResult, unique}
 use Rattle.sector_item.proofs.item_crc.Kinds as item-crc-kinds
 use Rattle.sector_item.proofs.item_crc.Reads as item-crc

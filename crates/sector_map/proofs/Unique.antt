@@ -1,5 +1,4 @@
 -- Any two results that a contract of this crate allows are equal, by what its callers learn.
--- Assumes nothing.
 use Rattle.sector.proofs.Unique.{OneResult, unique}
 use Rattle.sector_map.proofs.state_at.Kinds as state-at-kinds
 use Rattle.sector_map.proofs.state_at.Reads as state-at

@@ -1,6 +1,4 @@
 -- Counting a few entries more: how `get_entry_statistics` comes to the counts of Map.
---
--- Assumes nothing.
 use mathlib.Core.List.{List}
 use Prim.Native.Nat.{ℕ, _+_}
 use Rattle.sector.specs.declared.EntryMapState.{EntryMapState}

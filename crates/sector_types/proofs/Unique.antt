@@ -1,5 +1,4 @@
 -- Any two results that a contract of this crate allows are equal, by what its callers learn.
--- Assumes nothing.
 use Rattle.sector.proofs.Unique.{OneResult, unique}
 use Rattle.sector_types.proofs.kind_of.Kinds as kind-of-kinds
 use Rattle.sector_types.proofs.kind_of.Reads as kind-of

@@ -1,5 +1,4 @@
 -- A call that begins: no check refuses, so its units are programmed, and when it is done it hands back its new record.
--- Assumes nothing.
 use mathlib.Core.Path.{_≡_}
 use mathlib.Core.Bool.{Bool, true, false}
 use mathlib.Core.List.{List}

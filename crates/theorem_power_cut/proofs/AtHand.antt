@@ -1,7 +1,6 @@
 -- The record at hand: what opening reads off a page that stands, and that each call hands back just that.
 --
 -- In order: fields of the header; the record of a page that stands; one more item.
--- Assumes nothing.
 use mathlib.Core.Path.{_≡_, refl, sym, ap, _∙_}
 use mathlib.Core.Bool.{Bool, true, false, cond}
 use mathlib.Core.List.{List, [], _∷_, _++_, append-nil}

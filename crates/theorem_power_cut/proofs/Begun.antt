@@ -2,7 +2,6 @@
 --
 -- In order: what a write is, whatever call makes it; what the reading keeps, whatever the header; the states while marks are programmed; the image
 -- after n units; what is kept of it; the page that the whole write leaves.
--- Assumes nothing.
 use mathlib.Core.Path.{_≡_, refl, sym, ap, ap₂, _∙_, subst}
 use mathlib.Core.Bool.{Bool, true, false, cond}
 use mathlib.Core.List.{List, [], _∷_, _++_, append-assoc, append-nil}

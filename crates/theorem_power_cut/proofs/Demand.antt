@@ -1,5 +1,4 @@
 -- Demand 3 is proved: at every point of a history the page is held, so opening finds what was put, and a cut leaves the new item absent or whole.
--- Assumes nothing.
 use mathlib.Core.Path.{_≡_, refl, sym, ap, _∙_, subst}
 use mathlib.Core.Bool.{false, cond}
 use mathlib.Core.List.{List, [], _∷_, _++_, List·Memᴰ, List·Memᴰ·not-nil}

@@ -1,7 +1,6 @@
 -- Erasing one whole kept item of a page that is held: the page is held again, without the item.
 --
 -- In order: the items and the list without an index; the page and the record behind.
--- Assumes nothing.
 use mathlib.Core.Path.{_≡_, refl, sym, ap, ap₂, _∙_, subst}
 use mathlib.Core.Bool.{Bool, true, false, cond}
 use mathlib.Core.List.{List, [], _∷_, _++_}

@@ -1,7 +1,6 @@
 -- The page that initialise finishes: it stands, with no item on it, its header opens, and opening reads the record that initialise handed back.
 --
 -- In order: the finished page; the one record that is fit and Uninitialized; any call that is done.
--- Assumes nothing.
 use mathlib.Core.Path.{_≡_, refl, sym, ap, ap₂, _∙_, subst}
 use mathlib.Core.Bool.{true, not, and-eq-true-iff}
 use mathlib.Core.List.{List, [], _∷_, _++_}

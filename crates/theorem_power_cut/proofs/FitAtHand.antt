@@ -1,7 +1,6 @@
 -- The record at hand is fit to use at every point of a history.
 --
 -- In order: how many items are kept, and how many of them are listed; the places that list them; a page that is held; every history.
--- Assumes nothing.
 use mathlib.Core.Path.{_≡_, refl, ap, _∙_, subst}
 use mathlib.Core.Bool.{Bool, true, false, cond}
 use mathlib.Core.List.{List, [], _∷_}

@@ -1,5 +1,4 @@
 -- A sector's map, and an item that its reading keeps: whole, in the entries from its index on.
--- Assumes nothing.
 use mathlib.Core.Path.{_≡_, sym, _∙_}
 use mathlib.Core.List.{List, List·Memᴰ}
 use Prim.Native.Nat.{ℕ}

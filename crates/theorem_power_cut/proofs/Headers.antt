@@ -1,7 +1,6 @@
 -- Headers that open, and the state word Full on them.
 --
 -- In order: what of a header decides whether its page opens; the state word; a header with Full programmed, or not.
--- Assumes nothing.
 use mathlib.Core.Path.{_≡_, refl, sym, ap, _∙_, subst}
 use mathlib.Core.Bool.{Bool, true, false, _&&_, not, cond}
 use mathlib.Core.List.{List, [], _∷_, _++_}

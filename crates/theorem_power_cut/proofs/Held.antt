@@ -1,7 +1,6 @@
 -- What is known of a page at every point of a history: it stands, its header opens, and the record at hand is what opening reads.
 --
 -- In order: a page that is held; what opening leaves.
--- Assumes nothing.
 use mathlib.Core.Path.{_≡_, refl, sym, ap, _∙_, subst}
 use mathlib.Core.Bool.{Bool, true, false, _&&_, not, cond}
 use mathlib.Core.List.{List, [], _++_}

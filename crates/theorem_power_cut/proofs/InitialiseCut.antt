@@ -1,7 +1,7 @@
 -- Initialise stopped at any unit: the page is erased, or is CorruptedData, or is the finished page.
 --
 -- The version comes with the third unit and the CRC with the eighth; those between are 0xFF. So from the third unit on the page is the finished
--- one exactly where its CRC is 0xFFFFFFFF. Assumes nothing.
+-- one exactly where its CRC is 0xFFFFFFFF.
 use mathlib.Core.Path.{_≡_, refl, sym, ap, _∙_}
 use mathlib.Core.Bool.{Bool, true, false, not, cond}
 use mathlib.Core.List.{List, [], _∷_, _++_, append-nil}

@@ -1,7 +1,6 @@
 -- The writes of the calls, as writes on a page that stands: a single entry, a payload behind its header, a copy.
 --
 -- In order: the bytes of new items; one write of whole entries; header and payload; a copy.
--- Assumes nothing.
 use mathlib.Core.Path.{_≡_, sym, ap, ap₂, _∙_, subst}
 use mathlib.Core.Bool.{true}
 use mathlib.Core.List.{List, [], _∷_, _++_, append-assoc, append-nil}

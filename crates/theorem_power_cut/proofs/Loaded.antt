@@ -1,7 +1,6 @@
 -- What was put loads: each item by its index, and data with its bytes.
 --
 -- In order: the rules of a payload; an item that the reading keeps; data that it keeps; every history.
--- Assumes nothing.
 use mathlib.Core.Path.{_≡_, refl, sym, ap, _∙_, subst}
 use mathlib.Core.Bool.{Bool, true, false}
 use mathlib.Core.List.{List, [], _∷_, _++_, List·Memᴰ, head-eq-of-cons-eq, tail-eq-of-cons-eq}

@@ -1,7 +1,6 @@
 -- What opening's map units do to an image: a map turns into another, unit by unit.
 --
 -- In order: a map that is new up to a byte and old behind it; one unit; the units in which two maps differ, all of them and the first n.
--- Assumes nothing.
 use mathlib.Core.Path.{_≡_, refl, sym, ap, ap₂, _∙_}
 use mathlib.Core.Bool.{Bool, true, false, cond, and-eq-true-iff}
 use mathlib.Core.List.{List, [], _∷_, _++_, append-assoc}

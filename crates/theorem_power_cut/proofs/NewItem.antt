@@ -1,7 +1,6 @@
 -- What the appends write is whole: no rule of the reading refuses it by its bytes.
 --
 -- In order: types with a byte of their own; the fields of a new item's bytes; a single entry; a payload.
--- Assumes nothing.
 use mathlib.Core.Path.{_≡_, refl, sym, ap, _∙_}
 use mathlib.Core.Bool.{Bool, true, false, not, cond, and-false}
 use mathlib.Core.List.{List, [], _∷_, _++_}

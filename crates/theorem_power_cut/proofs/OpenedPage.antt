@@ -1,7 +1,6 @@
 -- What opening leaves of a sector that opens: its header and entries, the map of the reading, and so a page that stands.
 --
 -- In order: entries that are all 0xFF; the image after opening; the page that stands there.
--- Assumes nothing.
 use mathlib.Core.Path.{_≡_, refl, sym, ap, ap₂, _∙_, subst}
 use mathlib.Core.Bool.{true, and-eq-true-iff}
 use mathlib.Core.List.{List, [], _∷_, _++_}

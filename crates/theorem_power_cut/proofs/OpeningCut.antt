@@ -1,7 +1,6 @@
 -- Opening cut after any of its map units, and opened again, gives what one whole opening gives.
 --
 -- In order: a page with another map that reads the same; the map in the middle of opening; the cut.
--- Assumes nothing.
 use mathlib.Core.Path.{_≡_, refl, sym, ap, ap₂, _∙_, subst}
 use mathlib.Core.List.{List, [], _∷_, _++_}
 use Prim.Native.Nat.{ℕ, zero, suc, _+_, _-_, _*_, _≤_}

@@ -1,5 +1,4 @@
 -- Opening's units lie in the map, whatever the page holds: header and entries stay.
--- Assumes nothing.
 use mathlib.Core.Path.{refl}
 use mathlib.Core.Bool.{Bool, true, false, cond}
 use mathlib.Core.List.{List, []}

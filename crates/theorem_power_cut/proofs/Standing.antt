@@ -1,7 +1,6 @@
 -- A page that stands: header, map, entries in use, blank entries behind. Opening leaves it so, and changes nothing of it.
 --
 -- In order: the page; what its parts are; what the reading keeps of it; that opening changes nothing of it.
--- Assumes nothing.
 use mathlib.Core.Path.{_≡_, refl, sym, ap, ap₂, _∙_, subst}
 use mathlib.Core.Bool.{true}
 use mathlib.Core.List.{List, [], _∷_, _++_, append-assoc}

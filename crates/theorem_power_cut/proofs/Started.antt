@@ -1,7 +1,6 @@
 -- One more append or copy begun on a page that stands: each call's checks, plan and record in one form.
 --
 -- In order: the page at hand, and what a write that begins has; a single entry; a payload; a copy; any of them.
--- Assumes nothing.
 use mathlib.Core.Path.{_≡_, refl, sym, ap, ap₂, _∙_}
 use mathlib.Core.Bool.{Bool, true, false, _||_, not, and-eq-true-iff}
 use mathlib.Core.List.{List, [], _∷_, _++_, append-nil}

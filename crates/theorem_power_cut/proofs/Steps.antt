@@ -1,7 +1,6 @@
 -- One more append or copy on a page that is held: done, the page is held again; cut, it opens.
 --
 -- In order: an erased page refuses; the header of a cut write; a write cut after n units; a write that is done.
--- Assumes nothing.
 use mathlib.Core.Path.{_≡_, refl, sym, ap, ap₂, _∙_, subst}
 use mathlib.Core.Bool.{Bool, true, false, cond}
 use mathlib.Core.List.{List, [], _∷_, _++_}

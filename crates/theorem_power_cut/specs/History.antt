@@ -3,7 +3,6 @@
 --
 -- In order: requests as a caller can make them; the next write, begun on a page; the history of a page.
 -- A history is over (image, record, items): every step is a public call's definition that answers Done on the image and record before it.
--- Assumes nothing.
 use mathlib.Core.Path.{_≡_}
 use mathlib.Core.Bool.{Bool, true, cond}
 use mathlib.Core.List.{List, [], _∷_, _++_, List·Memᴰ}

@@ -1,7 +1,6 @@
 -- A closed front of a page: whole items and Erased entries, and nothing else. The reading keeps it as it is, and reads what lies behind it by itself.
 --
 -- In order: the front; its items are good, whatever lies behind; fronts joined; walk, items and opened states over a front and a rest.
--- Assumes nothing.
 use mathlib.Core.Path.{_≡_, refl, sym, ap, _∙_}
 use mathlib.Core.Bool.{true}
 use mathlib.Core.List.{List, [], _∷_, _++_, append-nil}

@@ -1,6 +1,6 @@
 -- The course of the walk: what it meets from an entry on, as evidence to go by cases on.
 --
--- Every law of the reading is an induction on a course, with a line for each thing that the walk can meet. Assumes nothing.
+-- Every law of the reading is an induction on a course, with a line for each thing that the walk can meet.
 use mathlib.Core.Path.{_≡_, sym}
 use mathlib.Core.Bool.{Bool, true, false, and-eq-true-iff}
 use mathlib.Core.List.{List, [], _∷_}

@@ -2,7 +2,7 @@
 -- header is marked it is there, whole.
 --
 -- In order: Empty entries with any bytes, and what opening leaves of blank ones; an item whose covered entries are marked in part; the cut.
--- Nothing here speaks of the units that the marks are programmed in. Assumes nothing.
+-- Nothing here speaks of the units that the marks are programmed in.
 use mathlib.Core.Path.{_≡_, refl, sym, ap}
 use mathlib.Core.Bool.{true, and-eq-true-iff}
 use mathlib.Core.List.{List, [], _∷_, _++_, append-nil}

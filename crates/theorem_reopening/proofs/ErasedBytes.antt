@@ -1,6 +1,6 @@
 -- The reading ignores the bytes of Erased entries: a purge, which zeroes such entries, changes neither what is kept nor what opening leaves.
 --
--- In order: entries that differ at Erased places alone; the rules over both; the theorem; a closed front over both. Assumes nothing.
+-- In order: entries that differ at Erased places alone; the rules over both; the theorem; a closed front over both.
 use mathlib.Core.Path.{_≡_, refl, ap}
 use mathlib.Core.Bool.{Bool, true, false, false≢true, and-eq-true-iff}
 use mathlib.Core.List.{List, [], _∷_}

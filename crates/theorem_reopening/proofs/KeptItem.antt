@@ -1,7 +1,6 @@
 -- An item that the reading keeps: where it lies in a closed front, what erasing it leaves, and that it is whole on any page.
 --
 -- In order: the entries that a header covers; the place of a kept item; the item erased; the indices of kept items; kept items of any page.
--- Assumes nothing.
 use mathlib.Core.Path.{_≡_, refl, sym, ap, _∙_}
 use mathlib.Core.List.{List, [], _∷_, _++_, List·Memᴰ, List·Memᴰ·head, List·Memᴰ·tail}
 use Prim.Native.Nat.{ℕ, zero, suc, _≤_, _<_, _+_}

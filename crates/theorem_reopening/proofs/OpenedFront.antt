@@ -1,6 +1,6 @@
 -- What opening leaves: a closed front, and behind it the free tail.
 --
--- In order: front and tail; opening leaves them; the free tail is Empty and all 0xFF; an opened page; its counts. Assumes nothing.
+-- In order: front and tail; opening leaves them; the free tail is Empty and all 0xFF; an opened page; its counts.
 use mathlib.Core.Path.{_≡_, refl, sym, ap, ap₂, _∙_}
 use mathlib.Core.Bool.{Bool, true, false, _&&_, cond, and-eq-true-iff}
 use mathlib.Core.List.{List, [], _∷_, _++_}

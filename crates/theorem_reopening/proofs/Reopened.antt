@@ -1,6 +1,6 @@
 -- Opening twice: the second time changes nothing, and keeps the same items. And opening only clears bits.
 --
--- In order: what opening leaves from an entry on; its length; opening twice; bits only cleared. Assumes nothing.
+-- In order: what opening leaves from an entry on; its length; opening twice; bits only cleared.
 use mathlib.Core.Path.{_≡_, refl, ap, _∙_}
 use mathlib.Core.Bool.{Bool, true, false, _&&_, cond}
 use mathlib.Core.List.{List, [], _∷_}

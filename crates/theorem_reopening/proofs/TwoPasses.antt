@@ -2,7 +2,7 @@
 --
 -- In order: a mix of two lists of states; what the two passes make of each entry; a refused item stays refused; a cut in the first pass, and one in
 -- the second; both passes only clear bits; the cut anywhere. A mix takes each entry from either list, so that neither the order inside a pass nor
--- the borders of units play a part. Assumes nothing.
+-- the borders of units play a part.
 use mathlib.Core.Path.{_≡_, refl, sym, ap₂}
 use mathlib.Core.Bool.{Bool, true, false, _&&_, not, cond, false≢true, and-eq-true-iff}
 use mathlib.Core.List.{List, [], _∷_, _++_}

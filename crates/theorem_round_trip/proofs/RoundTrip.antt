@@ -1,5 +1,4 @@
 -- A record and its 675 bytes give each other back, and a byte that is no state makes no record that is fit (specs/RoundTrip).
--- Assumes nothing.
 use mathlib.Core.Path.{_≡_, refl, sym, ap, ap₂, _∙_}
 use mathlib.Core.Bool.{Bool, true, cond}
 use mathlib.Core.List.{List, [], _∷_, _++_}

@@ -2,7 +2,6 @@
 --
 -- In order: what the fields of a record have room for; the record, and the bytes, that come back; bytes without a state.
 -- Each statement is a type; proofs/ has a proof of each.
--- Assumes nothing.
 use mathlib.Core.Path.{_≡_}
 use mathlib.Core.Bool.{true, false}
 use mathlib.Core.List.{List}

@@ -1,5 +1,4 @@
 -- The starred edges hold: every row of the table computes to what 01 says.
--- Assumes nothing.
 use mathlib.Core.Path.{refl}
 use Rattle.theorem_starred.specs.Edges.{StarredEdges}
 use Rattle.call_append.specs.Append.{appendSingle, appendSingleImage, singlePlan, appendVariable, appendVariableImage, variablePlan}

@@ -1,7 +1,6 @@
 -- A history with a step of each kind: the statements about histories are not empty. Every answer is computed.
 --
 -- In order: the requests; the page after each step; what is computed; the history.
--- Assumes nothing.
 use mathlib.Core.Path.{_≡_, refl, sym, ap, ap₂, subst}
 use mathlib.Core.Bool.{true}
 use mathlib.Core.List.{List, [], _∷_, _++_, List·Memᴰ, List·Memᴰ·head}

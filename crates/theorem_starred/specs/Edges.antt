@@ -2,7 +2,6 @@
 --
 -- In order: the pages and requests of the table; the table; the statement. The edges without a star are run (crate `edges`).
 -- A mark's byte is as 01 has it where the other marks in it, and the four spare bits, are still 1.
--- Assumes nothing.
 use mathlib.Core.Path.{_≡_}
 use mathlib.Core.Bool.{Bool, true, cond}
 use mathlib.Core.List.{List, [], _∷_, _++_}

@@ -1,7 +1,6 @@
 -- What accepted checks tell, and that every call does the first of its units.
 --
 -- In order: checks; what an answer tells; a call's units.
--- Assumes nothing.
 use mathlib.Core.Path.{_≡_, refl, sym, ap, _∙_}
 use mathlib.Core.Bool.{Bool, true, false, _||_, not, false≢true, and-eq-true-iff}
 use mathlib.Core.List.{List, [], _∷_, _++_}

@@ -1,5 +1,4 @@
 -- What the promises ask of records and requests is met: by the Uninitialized record, and by a namespace entry.
--- Assumes nothing.
 use mathlib.Core.Path.{_≡_, refl}
 use mathlib.Core.Bool.{true}
 use lib.ListN.{replicate}

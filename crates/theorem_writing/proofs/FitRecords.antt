@@ -1,7 +1,6 @@
 -- Done calls hand back fit records: each clause of fitness holds of the new record, since it held of the incoming one and the checks accepted.
 --
 -- In order: states; records with another state; a record with an item; a record with an erasure; each call.
--- Assumes nothing.
 use mathlib.Core.Path.{_≡_, refl, sym, ap, _∙_}
 use mathlib.Core.Bool.{Bool, true, false, _||_, not, cond, false≢true, and-eq-true-iff}
 use mathlib.Core.List.{List, [], _∷_}

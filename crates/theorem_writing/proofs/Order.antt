@@ -1,7 +1,6 @@
 -- Each write of a call is units of four bytes that rise from its first place up to its last, so a byte outside them all is not altered.
 --
 -- In order: units that rise; the writes of each call; a byte that no write reaches.
--- Assumes nothing.
 use mathlib.Core.Path.{_≡_, refl, sym, ap, _∙_}
 use mathlib.Core.Bool.{Bool, true, false, _||_, cond, and-eq-true-iff}
 use mathlib.Core.List.{List, [], _∷_, _++_, append-nil}

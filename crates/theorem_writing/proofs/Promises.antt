@@ -1,7 +1,6 @@
 -- The promises of the writing calls are proved: a call is its checks, the first of its units, and its new record, whichever call it is.
 --
 -- In order as in specs/Promises.antt.
--- Assumes nothing.
 use mathlib.Core.Path.{_≡_, refl, sym, ap, _∙_, subst}
 use mathlib.Core.Bool.{Bool, true, false, not, cond, false≢true, and-eq-true-iff}
 use mathlib.Core.List.{List, [], _∷_, _++_}

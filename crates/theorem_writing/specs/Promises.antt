@@ -3,7 +3,6 @@
 -- In order: the calls, each read off its own crate; the total; 11, and 1 to 10; PageFull; cleared bits; the order of units; the bytes that are
 -- reached; fit records. Purge by index takes no record, and stands beside the others where it writes.
 -- Each statement is a type; proofs/ has a proof of each.
--- Assumes nothing.
 use mathlib.Core.Path.{_≡_}
 use mathlib.Core.Bool.{Bool, true, false, _&&_, _||_, not, cond}
 use mathlib.Core.List.{List, [], _∷_, _++_}

@@ -1,5 +1,4 @@
 -- `is_bad_single` meets its contract: it tests the type that the byte names, then the span.
--- Assumes nothing.
 use mathlib.Core.Path.{_≡_, sym, ap, _∙_}
 use borrow.Author.Needs.{needs}
 use borrow.Author.Tests.{not-true, not-false}

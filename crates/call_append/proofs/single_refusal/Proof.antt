@@ -1,5 +1,4 @@
 -- `single_refusal` meets its contract: the checks that appends share, then each check of a single in its order.
--- Assumes nothing.
 use mathlib.Core.Path.{_≡_, refl, sym, _∙_}
 use mathlib.Core.Bool.{true}
 use mathlib.Core.List.{[], _∷_}

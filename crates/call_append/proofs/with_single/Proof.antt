@@ -1,5 +1,4 @@
 -- `with_single` meets its contract: an item of one entry, under its own hash.
--- Assumes nothing.
 use mathlib.Core.Path.{ap, _∙_}
 use borrow.Author.Needs.{needs}
 use Rattle.page.specs.Record.{withItem}

@@ -1,5 +1,4 @@
 -- `write_single` meets its contract: what `write_entries` does of the entry's bytes is the plan.
--- Assumes nothing.
 use borrow.Author.Needs.{needs}
 use Rattle.page.specs.Writing.{itemPlan}
 use Rattle.call_append.specs.Append.{singlePlan}

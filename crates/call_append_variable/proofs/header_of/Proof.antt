@@ -1,5 +1,4 @@
 -- `header_of` meets its contract: the item's bytes, of the data's size and CRC.
--- Assumes nothing.
 use mathlib.Core.Path.{ap₂, _∙_}
 use mathlib.Core.List.{List}
 use Prim.Native.Nat.{ℕ}

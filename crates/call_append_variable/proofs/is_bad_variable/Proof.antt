@@ -1,5 +1,4 @@
 -- `is_bad_variable` meets its contract: it tests whether the byte's type has a payload, then the namespace.
--- Assumes nothing.
 use mathlib.Core.Path.{_≡_, sym, ap, _∙_}
 use borrow.Author.Needs.{needs}
 use borrow.Author.Tests.{not-true, not-false}

@@ -1,5 +1,4 @@
 -- `variable_refusal` meets its contract: the checks that appends share, then each check of data in its order.
--- Assumes nothing.
 use mathlib.Core.Path.{_≡_, refl, sym, _∙_}
 use mathlib.Core.Bool.{true, false}
 use mathlib.Core.List.{List, [], _∷_}

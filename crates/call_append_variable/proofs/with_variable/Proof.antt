@@ -1,5 +1,4 @@
 -- `with_variable` meets its contract: an item of as many entries as the data takes, under its own hash.
--- Assumes nothing.
 use mathlib.Core.Path.{ap₂, _∙_}
 use Prim.Native.Nat.{ℕ}
 use borrow.Author.Needs.{needs}

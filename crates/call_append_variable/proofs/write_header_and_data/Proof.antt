@@ -1,5 +1,4 @@
 -- `write_header_and_data` meets its contract: the header entry, then the data with what it leaves of the budget.
--- Assumes nothing.
 use native.Mathlib.Omega.{arith}
 use Rattle.flash.specs.Flash.{units}
 use Rattle.flash.proofs.Laws.{length-units-le}

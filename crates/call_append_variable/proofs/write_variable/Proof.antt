@@ -1,5 +1,4 @@
 -- `write_variable` meets its contract: header entry and data, then the seal with what they leave of the budget.
--- Assumes nothing.
 use mathlib.Core.List.{_++_}
 use Prim.Native.Nat.{_+_}
 use native.Mathlib.Omega.{arith}

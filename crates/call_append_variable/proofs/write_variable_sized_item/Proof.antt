@@ -1,5 +1,4 @@
 -- `write_variable_sized_item` meets its contract: a refusal leaves all as it is, else the plan's units are done up to the stop.
--- Assumes nothing.
 use mathlib.Core.Path.{_≡_, refl, ap, _∙_}
 use mathlib.Core.Bool.{true}
 use lib.ListN.{take}

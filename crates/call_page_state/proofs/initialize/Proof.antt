@@ -1,5 +1,4 @@
 -- `initialize` meets its contract: a refusal leaves all as it is, else the header's units are done up to the stop.
--- Assumes nothing.
 use mathlib.Core.Path.{_≡_, refl, ap, _∙_}
 use mathlib.Core.Bool.{true, not}
 use mathlib.Core.List.{[], _∷_}

@@ -1,5 +1,4 @@
 -- `initialize_refusal` meets its contract: each `return` is the first check of `initialiseChecks` that refuses, or none.
--- Assumes nothing.
 use mathlib.Core.Path.{_≡_, sym, _∙_}
 use mathlib.Core.Bool.{true}
 use lib.Dec.{eqb}

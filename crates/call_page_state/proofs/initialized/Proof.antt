@@ -1,5 +1,4 @@
 -- `initialized` meets its contract: field by field.
--- Assumes nothing.
 use Rattle.call_page_state.specs.Calls.{initialised}
 use Rattle.call_page_state.proofs.initialized.Statement.{statement}
 use Rattle.call_page_state.proofs.initialized.Tie as tie

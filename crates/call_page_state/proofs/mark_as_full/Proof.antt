@@ -1,5 +1,4 @@
 -- `mark_as_full` meets its contract: a refusal leaves all as it is, else the state word is programmed, in one unit.
--- Assumes nothing.
 use mathlib.Core.Path.{_≡_, refl, ap, _∙_}
 use mathlib.Core.Bool.{true, false}
 use mathlib.Core.List.{List, []}

@@ -1,5 +1,4 @@
 -- `marked_full` meets its contract: field by field.
--- Assumes nothing.
 use mathlib.Core.Path.{refl}
 use Rattle.call_page_state.specs.Calls.{markedFull}
 use Rattle.call_page_state.proofs.marked_full.Statement.{statement}

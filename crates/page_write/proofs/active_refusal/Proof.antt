@@ -1,5 +1,4 @@
 -- `page_write::active_refusal` meets its contract: each `return` is the first check that refuses, or none.
--- Assumes nothing.
 use mathlib.Core.Path.{_≡_, sym, _∙_}
 use mathlib.Core.Bool.{true}
 use borrow.Author.Needs.{needs}

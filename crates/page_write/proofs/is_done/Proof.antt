@@ -1,5 +1,4 @@
 -- `page_write::is_done` meets its contract: it compares the answer's number.
--- Assumes nothing.
 use borrow.Author.Needs.{needs}
 use Rattle.page_write.proofs.is_done.Statement.{statement}
 use Rattle.page_write.proofs.is_done.Tie as tie

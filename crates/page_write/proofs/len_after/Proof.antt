@@ -1,5 +1,4 @@
 -- `page_write::len_after` meets its contract: its test is the definition's.
--- Assumes nothing.
 use borrow.Author.Needs.{needs}
 use borrow.Author.Tests.{eq-eqb, ne-eqb}
 use Rattle.page_write.proofs.len_after.Statement.{statement}

@@ -1,5 +1,4 @@
 -- `page_write::list_after` meets its contract: the place behind the list's length is stored, or none is.
--- Assumes nothing.
 use borrow.Author.Needs.{needs}
 use borrow.Author.Tests.{eq-eqb, ne-eqb}
 use Rattle.page_write.proofs.list_after.Statement.{statement}

@@ -1,5 +1,4 @@
 -- `page_write::seal` meets its contract: marks, then the state word with what they leave of the budget, or no state word.
--- Assumes nothing.
 use mathlib.Core.List.{append-nil}
 use native.Mathlib.Omega.{arith}
 use borrow.Author.Needs.{needs}

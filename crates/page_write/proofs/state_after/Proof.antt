@@ -1,5 +1,4 @@
 -- `page_write::state_after` meets its contract: its test is the definition's.
--- Assumes nothing.
 use borrow.Author.Tests.{eq-eqb, ne-eqb}
 use Rattle.page_write.proofs.state_after.Statement.{statement}
 use Rattle.page_write.proofs.state_after.Tie as tie

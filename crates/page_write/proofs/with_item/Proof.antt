@@ -1,5 +1,4 @@
 -- `page_write::with_item` meets its contract: each field is what its own step ensures.
--- Assumes nothing.
 use native.Mathlib.Omega.{arith}
 use Rattle.page.specs.Record.{withItem}
 use Rattle.page.proofs.Laws.{fit-clauses}

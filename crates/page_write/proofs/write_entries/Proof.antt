@@ -1,5 +1,4 @@
 -- `page_write::write_entries` meets its contract: the bytes, then the seal with what they leave of the budget.
--- Assumes nothing.
 use mathlib.Core.List.{_++_}
 use Prim.Native.Nat.{_+_}
 use native.Mathlib.Omega.{arith}

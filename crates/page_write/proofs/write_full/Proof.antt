@@ -1,5 +1,4 @@
 -- `page_write::write_full` meets its contract: it writes the state word's four bytes at 0.
--- Assumes nothing.
 use borrow.Author.Needs.{needs}
 use Rattle.page_write.proofs.write_full.Statement.{statement}
 use Rattle.page_write.proofs.write_full.Tie as tie

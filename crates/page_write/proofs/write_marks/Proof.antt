@@ -1,5 +1,4 @@
 -- `page_write::write_marks` meets its contract: the bytes from `first` to `end` are those of the units that hold the range's marks.
--- Assumes nothing.
 use mathlib.Core.Path.{_≡_}
 use Prim.Native.Nat.{ℕ, _+_, _-_, _*_, _/_, _≤_}
 use native.Mathlib.Omega.{arith}
