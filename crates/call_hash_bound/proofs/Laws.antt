@@ -12,7 +12,7 @@ use Rattle.sector.specs.declared.EntryMapState.{EntryMapState}
 use Rattle.sector.specs.declared.EntryMapState.the-variants.{Empty, Written, Erased, Illegal}
 use Rattle.sector.specs.Layout.{namespaceOf}
 use Rattle.sector.specs.Map.{sameState}
-use Rattle.call_hash_bound.specs.Bound.{passedBehind, counted, boundFrom}
+use Rattle.call_hash_bound.specs.Bound.{passedBehind, countOf, boundFrom}
 
 -- ---- entries to be passed
 
@@ -42,7 +42,7 @@ other-cons Illegal states entry entries h = refl
 
 written-cons : (s : EntryMapState) (states : List EntryMapState) (entry : List ℕ) (entries : List (List ℕ))
     → sameState Written s ≡ true
-    → boundFrom zero (s ∷ states) (entry ∷ entries) ≡ counted entry + boundFrom (passedBehind entry entries) states entries
+    → boundFrom zero (s ∷ states) (entry ∷ entries) ≡ countOf entry + boundFrom (passedBehind entry entries) states entries
 unfolding boundFrom
 written-cons Empty states entry entries h = absurd (false≢true h)
 written-cons Written states entry entries h = refl
@@ -61,18 +61,18 @@ module _ (states : List EntryMapState) (entries : List (List ℕ)) (i : ℕ) (in
   pub bound-written : sameState Written (getD states i Empty) ≡ true
       → let entry = getD entries i [] in
       let next = i + 1 + passedBehind entry (drop (i + 1) entries) in
-      boundFrom zero (drop i states) (drop i entries) ≡ counted entry + boundFrom zero (drop next states) (drop next entries)
+      boundFrom zero (drop i states) (drop i entries) ≡ countOf entry + boundFrom zero (drop next states) (drop next entries)
   bound-written h =
       let entry = getD entries i [] in
       let passed = passedBehind entry (drop (suc i) entries) in
       rw (add-one i, ← drop-drop passed (suc i) states, ← drop-drop passed (suc i) entries, drop-cons states i Empty in-states, drop-cons entries i [] in-entries)
       (written-cons (getD states i Empty) (drop (suc i) states) entry (drop (suc i) entries) h
-      ∙ ap (λ (n : ℕ). counted entry + n) (bound-drop passed (drop (suc i) states) (drop (suc i) entries)))
+      ∙ ap (λ (n : ℕ). countOf entry + n) (bound-drop passed (drop (suc i) states) (drop (suc i) entries)))
 
 -- ---- how large it is
 
-pub counted-le : (entry : List ℕ) → counted entry ≤ 1
-counted-le entry = go (eqb (namespaceOf entry) 0)
+pub countOf-le : (entry : List ℕ) → countOf entry ≤ 1
+countOf-le entry = go (eqb (namespaceOf entry) 0)
   where
     go : (b : Bool) → cond b 0 1 ≤ 1
     go true = omega arith
@@ -85,7 +85,7 @@ bound-le k [] entries = omega arith
 bound-le k (s ∷ states) [] = omega arith
 bound-le (suc k) (s ∷ states) (entry ∷ entries) = omega (arith, bound-le k states entries)
 bound-le zero (Written ∷ states) (entry ∷ entries) =
-    omega (arith, counted-le entry, bound-le (passedBehind entry entries) states entries)
+    omega (arith, countOf-le entry, bound-le (passedBehind entry entries) states entries)
 bound-le zero (Empty ∷ states) (entry ∷ entries) = omega (arith, bound-le zero states entries)
 bound-le zero (Erased ∷ states) (entry ∷ entries) = omega (arith, bound-le zero states entries)
 bound-le zero (Illegal ∷ states) (entry ∷ entries) = omega (arith, bound-le zero states entries)

@@ -14,15 +14,15 @@ abbrev pub passedBehind : List ℕ → List (List ℕ) → ℕ
 passedBehind entry rest = cond (leb 1 (spanOf entry) && leb (spanOf entry - 1) (length rest)) (spanOf entry - 1) 0
 
 -- one if the namespace is not 0
-abbrev pub counted : List ℕ → ℕ
-counted entry = cond (eqb (namespaceOf entry) 0) 0 1
+abbrev pub countOf : List ℕ → ℕ
+countOf entry = cond (eqb (namespaceOf entry) 0) 0 1
 
 -- k entries are still to be passed
 unfoldable pub boundFrom : ℕ → List EntryMapState → List (List ℕ) → ℕ
 boundFrom k [] entries = 0
 boundFrom k (s ∷ states) [] = 0
 boundFrom (suc k) (s ∷ states) (entry ∷ entries) = boundFrom k states entries
-boundFrom zero (Written ∷ states) (entry ∷ entries) = counted entry + boundFrom (passedBehind entry entries) states entries
+boundFrom zero (Written ∷ states) (entry ∷ entries) = countOf entry + boundFrom (passedBehind entry entries) states entries
 boundFrom zero (Empty ∷ states) (entry ∷ entries) = boundFrom zero states entries
 boundFrom zero (Erased ∷ states) (entry ∷ entries) = boundFrom zero states entries
 boundFrom zero (Illegal ∷ states) (entry ∷ entries) = boundFrom zero states entries

@@ -5,11 +5,11 @@ ghost use mathlib.Core.List.{List};
 ghost use Prim.Native.Nat.{ℕ, _≤_};
 ghost use lib.ListN.{length, drop};
 ghost use Rattle.sector.specs.Map.{statesOf};
-ghost use Rattle.call_hash_bound.specs.Bound.{passedBehind, counted, boundFrom, hashBound};
+ghost use Rattle.call_hash_bound.specs.Bound.{passedBehind, countOf, boundFrom, hashBound};
 
 // One if the namespace is not 0.
 fn count_of(entry: [u8; 32]) -> usize
-    ensures { λ r. ⌜ r ≡ counted entry ⌝ }
+    ensures { λ r. ⌜ r ≡ countOf entry ⌝ }
 {
     if entry[0] == 0 {
         return 0;

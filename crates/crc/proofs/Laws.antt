@@ -13,7 +13,7 @@ use lib.ListN.{length, getD, take, drop, length-take, length-drop, take-append-d
 use lib.Pow.{split, pow-pos, ones-sub-lt}
 use lib.Seq.{take-all, drop-cons, drop-drop, getD-drop}
 use Rattle.crc.specs.Crc.{feedback, shift, shifts, intake, register, not32, crc32}
-use Rattle.crc_tables.specs.Nibble.{number}
+use Rattle.crc_tables.specs.Nibble.{loadedWord}
 
 -- ---- exclusive or
 
@@ -141,20 +141,20 @@ intake-lt r byte p q = shifts-lt 8 (bitXor r byte) (xor-lt 32 r byte p (omega ar
 -- ---- all bytes
 
 -- bytes taken in one by one are their number taken in at once
-pub register-number : (r : ℕ) (bytes : List ℕ) → ((i : ℕ) → getD bytes i 0 < 256) → register r bytes ≡ shifts (8 * length bytes) (bitXor r (number bytes))
+pub register-number : (r : ℕ) (bytes : List ℕ) → ((i : ℕ) → getD bytes i 0 < 256) → register r bytes ≡ shifts (8 * length bytes) (bitXor r (loadedWord bytes))
 unfolding register shifts
 register-number r [] h = sym (xor-zero-r r)
 register-number r (byte ∷ bytes) h =
     register-number (intake r byte) bytes (λ i. h (suc i))
-    ∙ shifts-intake (8 * length bytes) r byte (number bytes) (h 0)
-    ∙ ap (λ (n : ℕ). shifts n (bitXor r (number bytes * 256 + byte))) (eight-more (length bytes))
+    ∙ shifts-intake (8 * length bytes) r byte (loadedWord bytes) (h 0)
+    ∙ ap (λ (n : ℕ). shifts n (bitXor r (loadedWord bytes * 256 + byte))) (eight-more (length bytes))
   where
     eight-more : (n : ℕ) → 8 + 8 * n ≡ 8 * suc n
     eight-more n = omega arith
 
 -- the number of the bytes from a place on is their first byte and the number of the others
 pub number-cons : (bytes : List ℕ) (at next n : ℕ) → next ≡ suc at → at < length bytes
-    → number (take (suc n) (drop at bytes)) ≡ number (take n (drop next bytes)) * 256 + getD bytes at 0
+    → loadedWord (take (suc n) (drop at bytes)) ≡ loadedWord (take n (drop next bytes)) * 256 + getD bytes at 0
 number-cons bytes at next n e h = rw (e, drop-cons bytes at 0)
 
 bytes-take : (n : ℕ) (bytes : List ℕ) → ((i : ℕ) → getD bytes i 0 < 256) → (i : ℕ) → getD (take n bytes) i 0 < 256
@@ -177,11 +177,11 @@ take-rest n l = take-all (length l - n) (drop n l) (rw length-drop (le-refl (len
 
 -- n bytes from a place on are taken in at once, and the others after them
 pub register-drop : (n r : ℕ) (bytes : List ℕ) (at : ℕ) → ((i : ℕ) → getD bytes i 0 < 256) → at + n ≤ length bytes
-    → register (shifts (8 * n) (bitXor r (number (take n (drop at bytes))))) (drop (at + n) bytes) ≡ register r (drop at bytes)
+    → register (shifts (8 * n) (bitXor r (loadedWord (take n (drop at bytes))))) (drop (at + n) bytes) ≡ register r (drop at bytes)
 register-drop n r bytes at h fits =
     let long : length (take n (drop at bytes)) ≡ n = rw (length-take, length-drop) (omega arith) in
     ap₂ register
-    (ap (λ (k : ℕ). shifts (8 * k) (bitXor r (number (take n (drop at bytes))))) (sym long)
+    (ap (λ (k : ℕ). shifts (8 * k) (bitXor r (loadedWord (take n (drop at bytes))))) (sym long)
     ∙ sym (register-number r (take n (drop at bytes)) (bytes-take n (drop at bytes) (bytes-drop at bytes h))))
     (sym (drop-drop n at bytes))
     ∙ sym (register-append r (take n (drop at bytes)) (drop n (drop at bytes)))
@@ -189,11 +189,11 @@ register-drop n r bytes at h fits =
 
 -- two words from a place on are taken in at once: the first has the shifts of the second to go too
 pub register-block : (r : ℕ) (bytes : List ℕ) (at : ℕ) → ((i : ℕ) → getD bytes i 0 < 256) → at + 8 ≤ length bytes
-    → register (bitXor (shifts 64 (bitXor r (number (take 4 (drop at bytes))))) (shifts 32 (number (take 4 (drop (at + 4) bytes))))) (drop (at + 8) bytes)
+    → register (bitXor (shifts 64 (bitXor r (loadedWord (take 4 (drop at bytes))))) (shifts 32 (loadedWord (take 4 (drop (at + 4) bytes))))) (drop (at + 8) bytes)
     ≡ register r (drop at bytes)
 register-block r bytes at h fits =
-    let low : ℕ = bitXor r (number (take 4 (drop at bytes))) in
-    let high : ℕ = number (take 4 (drop (at + 4) bytes)) in
+    let low : ℕ = bitXor r (loadedWord (take 4 (drop at bytes))) in
+    let high : ℕ = loadedWord (take 4 (drop (at + 4) bytes)) in
     let next : at + 8 ≡ at + 4 + 4 = omega arith in
     ap₂ register
     (ap (λ (x : ℕ). bitXor x (shifts 32 high)) (shifts-add 32 32 low) ∙ sym (shifts-xor 32 (shifts 32 low) high))

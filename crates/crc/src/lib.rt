@@ -3,7 +3,7 @@ ghost use mathlib.Core.Path.{_≡_};
 ghost use Prim.Native.Nat.{_+_, _%_, _<_, _≤_};
 ghost use lib.ListN.{length, take, drop};
 ghost use Rattle.crc.specs.Crc.{shifts, intake, register, crc32};
-ghost use Rattle.crc_tables.specs.Nibble.{number};
+ghost use Rattle.crc_tables.specs.Nibble.{loadedWord};
 
 // 32 shifts of a word, by its eight nibbles.
 fn shift_32(word: u32) -> u32
@@ -56,7 +56,7 @@ fn wide(byte: u8) -> u32
 // The number of the four bytes at `at`, lowest first.
 fn load_word(bytes: &[u8], at: usize) -> u32
     requires { ⌜ at + 4 ≤ length (now bytes) ⌝ }
-    ensures { λ r. ⌜ r ≡ number (take 4 (drop at (now (bytes .entry)))) ⌝ }
+    ensures { λ r. ⌜ r ≡ loadedWord (take 4 (drop at (now (bytes .entry)))) ⌝ }
 {
     ((wide(bytes[at + 3]) * 256 + wide(bytes[at + 2])) * 256 + wide(bytes[at + 1])) * 256
         + wide(bytes[at])

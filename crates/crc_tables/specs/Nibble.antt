@@ -35,6 +35,6 @@ abbrev pub nibble : (n value : ℕ) → ℕ
 nibble n value = getD (spread (getD ones (n - 3) 0 ∷ getD ones (n - 2) 0 ∷ getD ones (n - 1) 0 ∷ getD ones n 0 ∷ [])) value 0
 
 -- the number of bytes, lowest first; of none it is 0
-abbrev pub number : List ℕ → ℕ
-number [] = 0
-number (byte ∷ bytes) = number bytes * 256 + byte
+abbrev pub loadedWord : List ℕ → ℕ
+loadedWord [] = 0
+loadedWord (byte ∷ bytes) = loadedWord bytes * 256 + byte

@@ -30,7 +30,7 @@ use Rattle.call_append.proofs.Laws.{single-room}
 use Rattle.call_append_variable.proofs.Laws.{variable-room}
 use Rattle.cuts_request.specs.declared.Request.{Request}
 use Rattle.cuts_append.specs.declared.Sector.{Sector}
-use Rattle.cuts_append.specs.Cutting.{singleOf, variableOf, appended, firstNot, isStopped, unitCount, checksOf, planOf, CountsThePlan}
+use Rattle.cuts_append.specs.Cutting.{singleAsked, variableAsked, appended, firstNot, isStopped, unitCount, requestChecks, requestPlan, CountsThePlan}
 
 -- ---- the first number that is not below the total
 
@@ -132,7 +132,7 @@ counted test checks total t h = first-at test (cond (accepted checks) total 0) 0
 -- what is counted of a request, and what its plan says
 abbrev planned : Sector → Request → List ℕ → ℕ
 planned before request payload =
-    cond (accepted (checksOf (before .image) (before .page) request payload)) (length (planOf (before .page) request payload)) 0
+    cond (accepted (requestChecks (before .image) (before .page) request payload)) (length (requestPlan (before .page) request payload)) 0
 
 module _ (before : Sector) (request : Request) (payload : List ℕ) (k : length (request .key) ≡ 16) where
   single-count : length (request .bytes) ≡ 8 → request .single ≡ true → unitCount before request payload ≡ planned before request payload
@@ -140,7 +140,7 @@ module _ (before : Sector) (request : Request) (payload : List ℕ) (k : length 
   single-count b e =
       let image = before .image in
       let page = before .page in
-      let item = singleOf request in
+      let item = singleAsked request in
       let checks = singleChecks image page item in
       let total = length (singlePlan page item) in
       let same : planned before request payload ≡ cond (accepted checks) total 0 = rw e in
@@ -154,7 +154,7 @@ module _ (before : Sector) (request : Request) (payload : List ℕ) (k : length 
   variable-count e =
       let image = before .image in
       let page = before .page in
-      let item = variableOf request in
+      let item = variableAsked request in
       let checks = variableChecks image page item payload in
       let total = length (variablePlan page item payload) in
       let same : planned before request payload ≡ cond (accepted checks) total 0 = rw e in

@@ -29,8 +29,8 @@ pub use Rattle.cuts_append.specs.declared.Found.the-variants.{Absent, Wh
 -- ---- the append
 
 -- a single entry: span 1, no chunk
-abbrev pub singleOf : Request → Single
-singleOf request =
+abbrev pub singleAsked : Request → Single
+singleAsked request =
     record {
       namespace = request .namespace;
       kind = request .kind;
@@ -41,21 +41,21 @@ singleOf request =
     }
 
 -- data: no chunk
-abbrev pub variableOf : Request → Variable
-variableOf request =
+abbrev pub variableAsked : Request → Variable
+variableAsked request =
     record { namespace = request .namespace; kind = request .kind; chunk = 0xFF; key = request .key }
 
 unfoldable pub appended : List ℕ → ThinPage → Request → List ℕ → ℕ → Outcome
 appended image page request payload n =
     cond (request .single)
-    (appendSingle image page (singleOf request) n)
-    (appendVariable image page (variableOf request) payload n)
+    (appendSingle image page (singleAsked request) n)
+    (appendVariable image page (variableAsked request) payload n)
 
 unfoldable pub appendedImage : List ℕ → ThinPage → Request → List ℕ → ℕ → List ℕ
 appendedImage image page request payload n =
     cond (request .single)
-    (appendSingleImage image page (singleOf request) n)
-    (appendVariableImage image page (variableOf request) payload n)
+    (appendSingleImage image page (singleAsked request) n)
+    (appendVariableImage image page (variableAsked request) payload n)
 
 -- ---- the cut
 
@@ -102,23 +102,23 @@ abbrev pub unitCount : Sector → Request → List ℕ → ℕ
 unitCount before request payload = firstNot (isStopped before request payload) 0 most
 
 -- the checks of the request's append, in 01's order
-abbrev pub checksOf : List ℕ → ThinPage → Request → List ℕ → List Check
-checksOf image page request payload =
+abbrev pub requestChecks : List ℕ → ThinPage → Request → List ℕ → List Check
+requestChecks image page request payload =
     cond (request .single)
-    (singleChecks image page (singleOf request))
-    (variableChecks image page (variableOf request) payload)
+    (singleChecks image page (singleAsked request))
+    (variableChecks image page (variableAsked request) payload)
 
 -- the units that the request's append programs
-abbrev pub planOf : ThinPage → Request → List ℕ → List Unit4
-planOf page request payload =
-    cond (request .single) (singlePlan page (singleOf request)) (variablePlan page (variableOf request) payload)
+abbrev pub requestPlan : ThinPage → Request → List ℕ → List Unit4
+requestPlan page request payload =
+    cond (request .single) (singlePlan page (singleAsked request)) (variablePlan page (variableAsked request) payload)
 
 -- what is counted is the plan, where no check refuses
 abbrev pub CountsThePlan : Type 0
 CountsThePlan =
     (before : Sector) (request : Request) (payload : List ℕ) → length (request .key) ≡ 16 → length (request .bytes) ≡ 8
     → unitCount before request payload
-    ≡ cond (accepted (checksOf (before .image) (before .page) request payload)) (length (planOf (before .page) request payload)) 0
+    ≡ cond (accepted (requestChecks (before .image) (before .page) request payload)) (length (requestPlan (before .page) request payload)) 0
 
 -- ---- two sectors
 

@@ -3,30 +3,30 @@ use mathlib.Core.Path.{_≡_, refl}
 use mathlib.Core.Bool.{true, false}
 use mathlib.Core.List.{[], _∷_}
 use lib.ListN.{replicate}
-use Rattle.cuts_request.specs.Words.{number, noNumber, digitsFrom, numberOf, isKey, orNamed, typeOf, valueBytes}
+use Rattle.cuts_request.specs.Words.{goodNumber, noNumber, digitsFrom, numberIn, isKey, orNamed, typeOf, valueBytes}
 
 -- 255, 256, nothing
-number-255 : numberOf 0xFF (0x32 ∷ 0x35 ∷ 0x35 ∷ []) ≡ number 255
+number-255 : numberIn 0xFF (0x32 ∷ 0x35 ∷ 0x35 ∷ []) ≡ goodNumber 255
 unfolding digitsFrom
 number-255 = refl
 
-number-256 : numberOf 0xFF (0x32 ∷ 0x35 ∷ 0x36 ∷ []) ≡ noNumber
+number-256 : numberIn 0xFF (0x32 ∷ 0x35 ∷ 0x36 ∷ []) ≡ noNumber
 unfolding digitsFrom
 number-256 = refl
 
-number-empty : numberOf 0xFF [] ≡ noNumber
+number-empty : numberIn 0xFF [] ≡ noNumber
 number-empty = refl
 
 -- 0x42, 0x
-number-0x42 : numberOf 0xFF (0x30 ∷ 0x78 ∷ 0x34 ∷ 0x32 ∷ []) ≡ number 0x42
+number-0x42 : numberIn 0xFF (0x30 ∷ 0x78 ∷ 0x34 ∷ 0x32 ∷ []) ≡ goodNumber 0x42
 unfolding digitsFrom
 number-0x42 = refl
 
-number-0x : numberOf 0xFF (0x30 ∷ 0x78 ∷ []) ≡ noNumber
+number-0x : numberIn 0xFF (0x30 ∷ 0x78 ∷ []) ≡ noNumber
 number-0x = refl
 
 -- BlobData
-type-blob-data : typeOf (0x42 ∷ 0x6C ∷ 0x6F ∷ 0x62 ∷ 0x44 ∷ 0x61 ∷ 0x74 ∷ 0x61 ∷ []) ≡ number 0x42
+type-blob-data : typeOf (0x42 ∷ 0x6C ∷ 0x6F ∷ 0x62 ∷ 0x44 ∷ 0x61 ∷ 0x74 ∷ 0x61 ∷ []) ≡ goodNumber 0x42
 unfolding digitsFrom orNamed
 type-blob-data = refl
 

@@ -12,7 +12,7 @@ use lib.Seq.{drop-cons, drop-length}
 use borrow.Author.Tests.{lt-ltb, le-ltb, le-leb, lt-leb, leb-true}
 use Rattle.sector.specs.Layout.{sameBytes}
 use Rattle.cuts_request.specs.declared.Number.{Number}
-use Rattle.cuts_request.specs.Words.{number, noNumber, digitOf, digitsFrom, digitsOf, isHex, numberOf, Name, orNamed, typeNames, namedAmong, typeOf}
+use Rattle.cuts_request.specs.Words.{goodNumber, noNumber, digitOf, digitsFrom, digitsOf, isHex, numberIn, Name, orNamed, typeNames, namedAmong, typeOf}
 
 -- ---- numbers
 
@@ -46,7 +46,7 @@ module _ (base most value : ℕ) (text : List ℕ) (i digit : ℕ) (inside : i <
   digits-over h g = rw (lt-ltb digit base h, lt-leb (value * base + digit) most g) at digits-step
 
 -- past the last digit
-pub digits-end : (base most value : ℕ) (text : List ℕ) (i : ℕ) → i ≡ length text → digitsFrom base most value (drop i text) ≡ number value
+pub digits-end : (base most value : ℕ) (text : List ℕ) (i : ℕ) → i ≡ length text → digitsFrom base most value (drop i text) ≡ goodNumber value
 unfolding digitsFrom
 digits-end base most value text i e = rw (e, drop-length text)
 
@@ -75,8 +75,8 @@ digitsOf-most base most text =
     cond-most (eqb (length text) 0) most noNumber (digitsFrom base most 0 text) (λ e. omega arith)
     (digitsFrom-most base most 0 text (omega arith))
 
-pub numberOf-most : (most : ℕ) (text : List ℕ) → numberOf most text .value ≤ most
-numberOf-most most text =
+pub numberIn-most : (most : ℕ) (text : List ℕ) → numberIn most text .value ≤ most
+numberIn-most most text =
     cond-most (isHex text) most (digitsOf 16 most (drop 2 text)) (digitsOf 10 most text)
     (λ e. digitsOf-most 16 most (drop 2 text))
     (digitsOf-most 10 most text)
@@ -96,10 +96,10 @@ unfolding areBytes orNamed
 namedAmong-most [] found text e h = h
 namedAmong-most (name ∷ names) found text e h =
     namedAmong-most names (orNamed found text (name .0) (name .1)) text (and-right (leb (name .1) 0xFF) _ e)
-    (cond-most (found .good) 0xFF found (cond (sameBytes text (name .0)) (number (name .1)) noNumber) (λ g. h)
-    (cond-most (sameBytes text (name .0)) 0xFF (number (name .1)) noNumber
+    (cond-most (found .good) 0xFF found (cond (sameBytes text (name .0)) (goodNumber (name .1)) noNumber) (λ g. h)
+    (cond-most (sameBytes text (name .0)) 0xFF (goodNumber (name .1)) noNumber
     (λ g. leb-true _ _ (and-left _ (areBytes names) e)) (omega arith)))
 
 pub typeOf-most : (text : List ℕ) → typeOf text .value ≤ 0xFF
 unfolding areBytes
-typeOf-most text = namedAmong-most typeNames (numberOf 0xFF text) text refl (numberOf-most 0xFF text)
+typeOf-most text = namedAmong-most typeNames (numberIn 0xFF text) text refl (numberIn-most 0xFF text)

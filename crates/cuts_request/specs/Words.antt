@@ -17,8 +17,8 @@ use Rattle.cuts_request.specs.declared.Wrong.the-variants.{Nothing, BadN
 
 -- ---- numbers
 
-abbrev pub number : ℕ → Number
-number value = record { good = true; value = value }
+abbrev pub goodNumber : ℕ → Number
+goodNumber value = record { good = true; value = value }
 
 abbrev pub noNumber : Number
 noNumber = record { good = false; value = 0 }
@@ -36,7 +36,7 @@ digitOf byte =
 -- the number that digits of a base stand for, behind digits that stand for `before`; none where a byte is no digit of
 -- the base, or where the number is over `most`
 unfoldable pub digitsFrom : ℕ → ℕ → ℕ → List ℕ → Number
-digitsFrom base most before [] = number before
+digitsFrom base most before [] = goodNumber before
 digitsFrom base most before (byte ∷ text) =
     cond (ltb (digitOf byte) base && leb (before * base + digitOf byte) most)
     (digitsFrom base most (before * base + digitOf byte) text)
@@ -51,8 +51,8 @@ abbrev pub isHex : List ℕ → Bool
 isHex text = ltb 1 (length text) && (eqb (getD text 0 0) 0x30 && eqb (getD text 1 0) 0x78)
 
 -- a number from 0 to `most`, in decimal digits, or in hexadecimal ones behind 0x
-abbrev pub numberOf : ℕ → List ℕ → Number
-numberOf most text = cond (isHex text) (digitsOf 16 most (drop 2 text)) (digitsOf 10 most text)
+abbrev pub numberIn : ℕ → List ℕ → Number
+numberIn most text = cond (isHex text) (digitsOf 16 most (drop 2 text)) (digitsOf 10 most text)
 
 -- ---- the key
 
@@ -68,7 +68,7 @@ keyBytes text = cond (isKey text) (text ++ replicate (16 - length text) 0) (repl
 
 -- what was found before, or the byte of this name
 unfoldable pub orNamed : Number → List ℕ → List ℕ → ℕ → Number
-orNamed found text name byte = cond (found .good) found (cond (sameBytes text name) (number byte) noNumber)
+orNamed found text name byte = cond (found .good) found (cond (sameBytes text name) (goodNumber byte) noNumber)
 
 -- a name and its type byte
 abbrev pub Name : Type 0
@@ -98,7 +98,7 @@ namedAmong (name ∷ names) found text = namedAmong names (orNamed found text (n
 
 -- the type byte: a number from 0 to 255, or a name of 01
 abbrev pub typeOf : List ℕ → Number
-typeOf text = namedAmong typeNames (numberOf 0xFF text) text
+typeOf text = namedAmong typeNames (numberIn 0xFF text) text
 
 -- ---- the value of a single entry
 
@@ -113,7 +113,7 @@ mostOf width =
 
 -- a single's value; of data 0, since its word is a file's name
 abbrev pub valueOf : ℕ → List ℕ → Number
-valueOf kind text = cond (kindOf kind .payload) (number 0) (numberOf (mostOf (valueWidth kind)) text)
+valueOf kind text = cond (kindOf kind .payload) (goodNumber 0) (numberIn (mostOf (valueWidth kind)) text)
 
 -- the value's lowest bytes, lowest first, and 0xFF in the rest of the eight
 abbrev pub valueBytes : ℕ → ℕ → List ℕ
@@ -128,8 +128,8 @@ refusedFor wrong =
       request = record { single = false; namespace = 0; kind = 0; key = replicate 16 0; bytes = replicate 8 0 };
     }
 
-abbrev pub accepted : ℕ → ℕ → List ℕ → ℕ → Parsed
-accepted namespace kind key value =
+abbrev pub requestFrom : ℕ → ℕ → List ℕ → ℕ → Parsed
+requestFrom namespace kind key value =
     record {
       wrong = Nothing;
       request =
@@ -143,14 +143,14 @@ accepted namespace kind key value =
     }
 
 -- the first word that is wrong, or the request: of what the words were read as, and the key
-abbrev pub decided : Number → Number → List ℕ → Number → Parsed
-decided namespace kind key value =
+abbrev pub wordsChecked : Number → Number → List ℕ → Number → Parsed
+wordsChecked namespace kind key value =
     cond (not (namespace .good)) (refusedFor BadNamespace)
     (cond (not (kind .good)) (refusedFor BadType)
     (cond (not (isKey key)) (refusedFor BadKey)
     (cond (not (value .good)) (refusedFor BadValue)
-    (accepted (namespace .value) (kind .value) key (value .value)))))
+    (requestFrom (namespace .value) (kind .value) key (value .value)))))
 
 abbrev pub parsed : List ℕ → List ℕ → List ℕ → List ℕ → Parsed
 parsed namespace kind key value =
-    decided (numberOf 0xFF namespace) (typeOf kind) key (valueOf (typeOf kind .value) value)
+    wordsChecked (numberIn 0xFF namespace) (typeOf kind) key (valueOf (typeOf kind .value) value)

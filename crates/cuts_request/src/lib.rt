@@ -2,7 +2,7 @@
 ghost use mathlib.Core.Path.{_≡_};
 ghost use Prim.Native.Nat.{_<_};
 ghost use Rattle.sector.specs.Layout.{littleEndian};
-ghost use Rattle.cuts_request.specs.Words.{noNumber, digitOf, digitsOf, isHex, numberOf, isKey, keyBytes, orNamed, typeOf, valueWidth, mostOf, valueOf, valueBytes, refusedFor, parsed};
+ghost use Rattle.cuts_request.specs.Words.{noNumber, digitOf, digitsOf, isHex, numberIn, isKey, keyBytes, orNamed, typeOf, valueWidth, mostOf, valueOf, valueBytes, refusedFor, parsed};
 use sector_types::kind_of;
 
 const NO_DIGIT: u64 = 16;
@@ -122,7 +122,7 @@ fn is_hex(text: &[u8]) -> bool
 
 // A number from 0 to `most`, in decimal digits, or in hexadecimal ones behind 0x. Any other word is no number.
 pub fn number_of(most: u64, text: &[u8]) -> Number
-    ensures { λ r. ⌜ r ≡ numberOf most (now (text .entry)) ⌝ }
+    ensures { λ r. ⌜ r ≡ numberIn most (now (text .entry)) ⌝ }
 {
     if is_hex(text) {
         return digits_of(16, most, &text[2..]);

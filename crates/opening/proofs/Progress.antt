@@ -25,7 +25,7 @@ use Rattle.opening_reading.specs.declared.Verdict.{Verdict}
 use Rattle.opening_reading.specs.declared.Verdict.the-variants.{NotAnItem, RefusedEntry, RefusedItem, Kept}
 use Rattle.opening_reading.specs.Reading.{Item, isUsable, usable, verdictAt, stepsOver, markOf, markBehind, walk, withKept, keptFrom}
 use Rattle.opening.specs.Opening.{isRefusedItem, refusedHeaders, listedItems}
-use Rattle.opening.specs.Steps.{markedBy, listingOf, withItem, listedBy}
+use Rattle.opening.specs.Steps.{markedBy, listingOf, withListed, listedBy}
 use Rattle.opening_reading.proofs.Entries.{states-from, entries-from}
 use Rattle.opening_reading.proofs.Midway.{both-written}
 use Rattle.opening.proofs.Steps.{walk-skip, refused-headers-skip, kept-skip, steps-over-le, kept-usable}
@@ -320,7 +320,7 @@ module _ (image map : List ℕ) (listing : Listing) (i : ℕ) (long : length map
       record { places = to .places; left = to .left ∙ same; within = omega arith }
 
   listed-kept : (k : ℕ) → verdictOf image map i ≡ Kept k → (zeroth : Bool) → eqb (namespaceOf (entryAt image i)) 0 ≡ zeroth
-      → ListedTo image map (withItem i (entryAt image i) listing) (i + 1 + k)
+      → ListedTo image map (withListed i (entryAt image i) listing) (i + 1 + k)
   listed-kept k e true plain = rw plain (listed-same (Kept k) e (ap listedItems (rw e at (kept-from image map i long inside)) ∙ rw plain))
   listed-kept k e false named =
       let all = listedItems (keptFrom zero zero (statesOf map) (entriesOf image)) in

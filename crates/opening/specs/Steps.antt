@@ -29,8 +29,8 @@ abbrev pub listingOf : List Listed → Listing
 listingOf places = record { len = length places; list = padded places }
 
 -- one place more, unless in namespace 0
-abbrev pub withItem : ℕ → List ℕ → Listing → Listing
-withItem i entry listing =
+abbrev pub withListed : ℕ → List ℕ → Listing → Listing
+withListed i entry listing =
     cond (eqb (namespaceOf entry) 0)
     listing
     (record {
@@ -43,11 +43,11 @@ abbrev pub listedBy : Verdict → ℕ → List ℕ → Listing → Listing
 listedBy NotAnItem i entry listing = listing
 listedBy (RefusedEntry reason) i entry listing = listing
 listedBy (RefusedItem reason k) i entry listing = listing
-listedBy (Kept k) i entry listing = withItem i entry listing
+listedBy (Kept k) i entry listing = withListed i entry listing
 
 -- the header's fields, the map with its counts, the list
-unfoldable pub recordOf : List ℕ → List ℕ → Listing → ThinPage
-recordOf image map listing =
+unfoldable pub headerRecord : List ℕ → List ℕ → Listing → ThinPage
+headerRecord image map listing =
     record {
       state = stateOfWord (stateWord image);
       sequence = sequenceOf image;

@@ -4,7 +4,7 @@ ghost use mathlib.Core.List.{[]};
 ghost use Prim.Native.Nat.{_<_};
 ghost use lib.ListN.{length};
 ghost use Rattle.sector.specs.Layout.{sectorSize, entriesPerPage, entryAt};
-ghost use Rattle.opening.specs.Steps.{listingOf, withItem, listedBy};
+ghost use Rattle.opening.specs.Steps.{listingOf, withListed, listedBy};
 use crate::Listing;
 use opening_reading::Verdict;
 use page::Listed;
@@ -21,9 +21,9 @@ pub(crate) fn empty() -> Listing
 }
 
 // One place more for the item at an entry, unless it is in namespace 0.
-fn with_item(listing: Listing, entry: [u8; 32], index: usize) -> Listing
+fn with_listed(listing: Listing, entry: [u8; 32], index: usize) -> Listing
     requires { ⌜ (index < entriesPerPage) × (listing .len < entriesPerPage) ⌝ }
-    ensures { λ r. ⌜ r ≡ withItem index entry listing ⌝ }
+    ensures { λ r. ⌜ r ≡ withListed index entry listing ⌝ }
 {
     if entry[0] == 0 {
         return listing;
@@ -47,6 +47,6 @@ pub(crate) fn listed_by(listing: Listing, image: &[u8], index: usize, verdict: V
         Verdict::NotAnItem => listing,
         Verdict::RefusedEntry(_) => listing,
         Verdict::RefusedItem(_, _) => listing,
-        Verdict::Kept(_) => with_item(listing, call_load::entry_at(image, index), index),
+        Verdict::Kept(_) => with_listed(listing, call_load::entry_at(image, index), index),
     }
 }

@@ -3,7 +3,7 @@ ghost use mathlib.Core.Path.{_≡_};
 ghost use lib.ListN.{length};
 ghost use Rattle.sector.specs.Layout.{sectorSize, mapOf};
 ghost use Rattle.opening.specs.Opening.{firstMap, openedPage};
-ghost use Rattle.opening.specs.Steps.{recordOf};
+ghost use Rattle.opening.specs.Steps.{headerRecord};
 use crate::Changes;
 use crate::Listing;
 use crate::walk;
@@ -25,9 +25,9 @@ fn map_of(image: &[u8]) -> [u8; 32]
 }
 
 // The record of a header, with the map and the list that opening leaves.
-fn record_of(image: &[u8], map: [u8; 32], listing: Listing) -> ThinPage
+fn header_record(image: &[u8], map: [u8; 32], listing: Listing) -> ThinPage
     requires { ⌜ length (now image) ≡ sectorSize ⌝ }
-    ensures { λ r. ⌜ r ≡ recordOf (now (image .entry)) map listing ⌝ }
+    ensures { λ r. ⌜ r ≡ headerRecord (now (image .entry)) map listing ⌝ }
 {
     let state = sector_header::state_of_word(bytes::number_at(image, 0));
     let sequence = bytes::number_at(image, 4);
@@ -61,6 +61,6 @@ pub(crate) fn changes(image: &[u8]) -> Changes
     let heads = walked.heads;
     let first = opening_marks::first_pass(map, opened, heads);
     let listing = walked.listing;
-    let page = record_of(image, opened, listing);
+    let page = header_record(image, opened, listing);
     Changes { map, first, page }
 }

@@ -7,12 +7,12 @@ use native.Mathlib.Nat.{add-assoc}
 use lib.ListN.{length, getD}
 use Rattle.sector.specs.Layout.{number, field}
 use Rattle.sector.proofs.Laws.{field-cons}
-use Rattle.recorded_file.specs.Buffers.{allSize, startOf, sizeOf}
+use Rattle.recorded_file.specs.Buffers.{allSize, startOf, bufferSize}
 
 -- ---- buffers
 
-pub start-size-le : (buffer : ℕ) → startOf buffer + sizeOf buffer ≤ allSize
-unfolding startOf sizeOf
+pub start-size-le : (buffer : ℕ) → startOf buffer + bufferSize buffer ≤ allSize
+unfolding startOf bufferSize
 start-size-le zero = omega arith
 start-size-le (suc zero) = omega arith
 start-size-le (suc (suc zero)) = omega arith

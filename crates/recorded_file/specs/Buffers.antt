@@ -27,18 +27,18 @@ unfoldable pub startOf : ℕ → ℕ
 startOf buffer = getD (0 ∷ sourceStart ∷ 4096 ∷ dataStart ∷ 4771 ∷ 17120 ∷ 8867 ∷ []) buffer 0
 
 -- 0 for a number that none has
-unfoldable pub sizeOf : ℕ → ℕ
-sizeOf buffer = getD (4096 ∷ 4096 ∷ 675 ∷ 4096 ∷ 4096 ∷ 64 ∷ 61 ∷ []) buffer 0
+unfoldable pub bufferSize : ℕ → ℕ
+bufferSize buffer = getD (4096 ∷ 4096 ∷ 675 ∷ 4096 ∷ 4096 ∷ 64 ∷ 61 ∷ []) buffer 0
 
 -- image, record, output, result, source, data, request: each starts where the one before it ends
 pub buffers-follow : (startOf 0 ≡ 0)
-    × (startOf 2 ≡ startOf 0 + sizeOf 0)
-    × (startOf 4 ≡ startOf 2 + sizeOf 2)
-    × (startOf 6 ≡ startOf 4 + sizeOf 4)
-    × (startOf 1 ≡ startOf 6 + sizeOf 6)
-    × (startOf 3 ≡ startOf 1 + sizeOf 1)
-    × (startOf 5 ≡ startOf 3 + sizeOf 3)
-    × (allSize ≡ startOf 5 + sizeOf 5)
+    × (startOf 2 ≡ startOf 0 + bufferSize 0)
+    × (startOf 4 ≡ startOf 2 + bufferSize 2)
+    × (startOf 6 ≡ startOf 4 + bufferSize 4)
+    × (startOf 1 ≡ startOf 6 + bufferSize 6)
+    × (startOf 3 ≡ startOf 1 + bufferSize 1)
+    × (startOf 5 ≡ startOf 3 + bufferSize 3)
+    × (allSize ≡ startOf 5 + bufferSize 5)
     × (changedSize ≡ startOf 1)
-unfolding startOf sizeOf
+unfolding startOf bufferSize
 buffers-follow = (refl, refl, refl, refl, refl, refl, refl, refl, refl)

@@ -1,7 +1,7 @@
 // The seven buffers, one behind the other in one array: first what a call changes, then what it only reads.
 ghost use mathlib.Core.Path.{_≡_};
 ghost use Prim.Native.Nat.{_<_};
-ghost use Rattle.recorded_file.specs.Buffers.{startOf, sizeOf};
+ghost use Rattle.recorded_file.specs.Buffers.{startOf, bufferSize};
 
 pub const IMAGE: usize = 0;
 
@@ -40,7 +40,7 @@ pub(crate) fn start_of(buffer: u8) -> usize
 // How many bytes a buffer has.
 pub(crate) fn size_of(buffer: u8) -> usize
     requires { ⌜ buffer < 7 ⌝ }
-    ensures { λ r. ⌜ r ≡ sizeOf buffer ⌝ }
+    ensures { λ r. ⌜ r ≡ bufferSize buffer ⌝ }
 {
     SIZES[buffer as usize]
 }

@@ -22,9 +22,9 @@ use Rattle.opening_reading.specs.Reading.{Item, item}
 use Rattle.opening.specs.Opening.{headerVerdictOf, keptItems, opening, openingImage}
 use Rattle.opening.specs.declared.HeaderVerdict.the-variants.{Blank}
 use Rattle.theorem_reopening.proofs.KeptItem.{member-split}
-use Rattle.theorem_writing.specs.Promises.{SetsNoBit, putting, erasing}
+use Rattle.theorem_writing.specs.Promises.{SetsNoBit, erasing, outcomeOf, imageOf, entryUnits}
 use Rattle.theorem_writing.proofs.Promises.{only-clears-bits}
-use Rattle.theorem_power_cut.specs.History.{Write, asked, outcomeOf, imageOf, entriesOfWrite, entryUnits, newItem, withoutItem, History, opened, written, erased}
+use Rattle.theorem_power_cut.specs.History.{AppendOrCopy, entriesOfWrite, newItem, withoutItem, History, opened, written, erased, callOf, putRequest}
 use Rattle.theorem_power_cut.specs.PowerCut.{FindsWhatWasPut, Begins, AbsentOrWhole, AltersNoOtherEntry, ErasesMarksAlone}
 use Rattle.theorem_power_cut.proofs.Standing.{Standing, standing-size, standing-kept, standing-plan}
 use Rattle.theorem_power_cut.proofs.Begun.{within-full}
@@ -38,13 +38,13 @@ use Rattle.theorem_power_cut.proofs.Erasing.{some, fits, run-erase, era
 
 -- ---- every point of a history is known
 
-written-known : {image : List ℕ} {page : ThinPage} {items : List Item} → Known image page items → (write : Write) (n : ℕ)
-    → outcomeOf write image page n .answer ≡ Done
-    → Known (imageOf write image page n) (outcomeOf write image page n .page) (items ++ (newItem write page ∷ []))
+written-known : {image : List ℕ} {page : ThinPage} {items : List Item} → Known image page items → (write : AppendOrCopy) (n : ℕ)
+    → outcomeOf (callOf write) image page n .answer ≡ Done
+    → Known (imageOf (callOf write) image page n) (outcomeOf (callOf write) image page n .page) (items ++ (newItem write page ∷ []))
 written-known {image} {page} {items} (held h) write n d =
     subst
-    (λ (at-hand : ThinPage). outcomeOf write image at-hand n .answer ≡ Done
-    → Known (imageOf write image at-hand n) (outcomeOf write image at-hand n .page) (items ++ (newItem write at-hand ∷ [])))
+    (λ (at-hand : ThinPage). outcomeOf (callOf write) image at-hand n .answer ≡ Done
+    → Known (imageOf (callOf write) image at-hand n) (outcomeOf (callOf write) image at-hand n .page) (items ++ (newItem write at-hand ∷ [])))
     (sym (h .page-is))
     (λ d. held (done-held (h .standing) (h .opens) (started (h .standing) write n (inl d)) d))
     d
@@ -136,13 +136,13 @@ pub absent-or-whole : AbsentOrWhole
 absent-or-whole image page items h write n b = by-known (known h) b
   where
     by-known : Known image page items → Begins write image page n
-        → (opening (imageOf write image page n) .answer ≡ Done)
-        × (keptItems (imageOf write image page n) ≡ cond (leb n (length (entryUnits write page))) items (items ++ (newItem write page ∷ [])))
+        → (opening (imageOf (callOf write) image page n) .answer ≡ Done)
+        × (keptItems (imageOf (callOf write) image page n) ≡ cond (leb n (length (entryUnits (putRequest write) page))) items (items ++ (newItem write page ∷ [])))
     by-known (held h) b =
         subst
         (λ (at-hand : ThinPage). Begins write image at-hand n
-        → (opening (imageOf write image at-hand n) .answer ≡ Done)
-        × (keptItems (imageOf write image at-hand n) ≡ cond (leb n (length (entryUnits write at-hand))) items (items ++ (newItem write at-hand ∷ []))))
+        → (opening (imageOf (callOf write) image at-hand n) .answer ≡ Done)
+        × (keptItems (imageOf (callOf write) image at-hand n) ≡ cond (leb n (length (entryUnits (putRequest write) at-hand))) items (items ++ (newItem write at-hand ∷ []))))
         (sym (h .page-is))
         (λ b. let s = started (h .standing) write n b in (cut-opens (h .standing) (h .opens) s, cut-kept (h .standing) (h .opens) s))
         b
@@ -150,7 +150,7 @@ absent-or-whole image page items h write n b = by-known (known h) b
 
 -- ---- bits and other entries
 
-module _ {image : List ℕ} {items : List Item} (p : Standing image items) {write : Write} {n : ℕ} (s : Started p write n) where
+module _ {image : List ℕ} {items : List Item} (p : Standing image items) {write : AppendOrCopy} {n : ℕ} (s : Started p write n) where
   abbrev start : ℕ
   start = length (p .front)
 
@@ -158,7 +158,7 @@ module _ {image : List ℕ} {items : List Item} (p : Standing image items) {writ
   span = suc (length (s .new))
 
   -- the units of a write lie in its own entries, the map and the state word
-  outside : (i : ℕ) → (i < start) ⊎ (start + span ≤ i) → Outside (entryAddress i) (entryAddress i + 32) (itemPlan (entryUnits write (at-hand p)) start span (p .map))
+  outside : (i : ℕ) → (i < start) ⊎ (start + span ≤ i) → Outside (entryAddress i) (entryAddress i + 32) (itemPlan (entryUnits (putRequest write) (at-hand p)) start span (p .map))
   unfolding itemPlan
   outside i away =
       outside-append (by-side away)
@@ -166,12 +166,12 @@ module _ {image : List ℕ} {items : List Item} (p : Standing image items) {writ
       (outside-within (entryAddress i) (entryAddress i + 32) (inl (omega arith)) (within-mapUnits start span _ (omega arith) (omega (arith, s .lays .room, p .sum))))
       (outside-within (entryAddress i) (entryAddress i + 32) (inl (omega arith)) (within-full (start + span))))
     where
-      by-side : (i < start) ⊎ (start + span ≤ i) → Outside (entryAddress i) (entryAddress i + 32) (entryUnits write (at-hand p))
+      by-side : (i < start) ⊎ (start + span ≤ i) → Outside (entryAddress i) (entryAddress i + 32) (entryUnits (putRequest write) (at-hand p))
       by-side (inl h) = outside-within (entryAddress i) (entryAddress i + 32) (inr (omega arith)) (s .lays .within)
       by-side (inr h) = outside-within (entryAddress i) (entryAddress i + 32) (inl (omega arith)) (s .lays .within)
 
   write-entries : (i : ℕ) → (i < nextFree (at-hand p)) ⊎ (nextFree (at-hand p) + length (entriesOfWrite write) ≤ i)
-      → entryAt (imageOf write image (at-hand p) n) i ≡ entryAt image i
+      → entryAt (imageOf (callOf write) image (at-hand p) n) i ≡ entryAt image i
   write-entries i away =
       ap (λ (after : List ℕ). entryAt after i) (s .image-is)
       ∙ take-drop-run (entryAddress i) 32 image (outside-take n (outside i (here away)))
@@ -180,10 +180,10 @@ module _ {image : List ℕ} {items : List Item} (p : Standing image items) {writ
       here (inl h) = inl (omega (arith, next-is p))
       here (inr h) = inr (omega (arith, next-is p, ap length (s .entries-is)))
 
-abbrev Unaltered : Write → ℕ → List ℕ → ThinPage → Type 0
+abbrev Unaltered : AppendOrCopy → ℕ → List ℕ → ThinPage → Type 0
 Unaltered write n image page =
-    SetsNoBit image (imageOf write image page n)
-    × ((i : ℕ) → i < 126 → (i < nextFree page) ⊎ (nextFree page + length (entriesOfWrite write) ≤ i) → entryAt (imageOf write image page n) i ≡ entryAt image i)
+    SetsNoBit image (imageOf (callOf write) image page n)
+    × ((i : ℕ) → i < 126 → (i < nextFree page) ⊎ (nextFree page + length (entriesOfWrite write) ≤ i) → entryAt (imageOf (callOf write) image page n) i ≡ entryAt image i)
 
 pub alters-no-other-entry : AltersNoOtherEntry
 alters-no-other-entry image page items h write n b = by-known (known h) b
@@ -191,7 +191,7 @@ alters-no-other-entry image page items h write n b = by-known (known h) b
     by-known : Known image page items → Begins write image page n → Unaltered write n image page
     by-known (held h) b =
         subst (λ (page : ThinPage). Begins write image page n → Unaltered write n image page) (sym (h .page-is))
-        (λ b. let s = started (h .standing) write n b in (only-clears-bits (putting (asked write)) image (at-hand (h .standing)) n, λ i l away. write-entries (h .standing) s i away))
+        (λ b. let s = started (h .standing) write n b in (only-clears-bits (callOf write) image (at-hand (h .standing)) n, λ i l away. write-entries (h .standing) s i away))
         b
     by-known (blank i p e) b = absurd (blank-refuses write image n (subst (λ (page : ThinPage). Begins write image page n) p b))
 

@@ -37,7 +37,8 @@ use Rattle.opening_reading.proofs.Verdicts.{States, Entries}
 use Rattle.theorem_reopening.proofs.Closed.{Closed}
 use Rattle.theorem_reopening.proofs.KeptItem.{WholeAt}
 use Rattle.theorem_reopening.proofs.OpenedFront.{Opened, count-opened}
-use Rattle.theorem_power_cut.specs.History.{SingleRequest, VariableRequest, KeptIn, Write, a-single, a-variable, a-copy, outcomeOf, imageOf, entriesOfWrite, entryUnits, payloadEntries}
+use Rattle.theorem_writing.specs.Promises.{outcomeOf, imageOf, entryUnits, single}
+use Rattle.theorem_power_cut.specs.History.{SingleRequest, VariableRequest, KeptIn, AppendOrCopy, a-single, a-variable, a-copy, entriesOfWrite, payloadEntries, callOf, putRequest}
 use Rattle.theorem_power_cut.specs.PowerCut.{Begins}
 use Rattle.sector.proofs.Laws.{length-chunks}
 use Rattle.theorem_power_cut.proofs.Standing.{Standing}
@@ -79,17 +80,17 @@ module _ {image : List ℕ} {items : List Item} (p : Standing image items) where
   next-is = counted (p .closed)
 
   -- a write that begins: its bytes are laid at next free, the image is that of its first n units, and done it hands back the record with the item
-  pub record Started (write : Write) (n : ℕ) : Type 0 where
+  pub record Started (write : AppendOrCopy) (n : ℕ) : Type 0 where
     pub entry : List ℕ
     pub new : Entries
-    pub lays : Lays p entry new (entryUnits write page)
+    pub lays : Lays p entry new (entryUnits (putRequest write) page)
     pub entries-is : entriesOfWrite write ≡ entry ∷ new
-    pub image-is : imageOf write image page n ≡ run (take n (itemPlan (entryUnits write page) start (suc (length new)) (p .map))) image
+    pub image-is : imageOf (callOf write) image page n ≡ run (take n (itemPlan (entryUnits (putRequest write) page) start (suc (length new)) (p .map))) image
     pub active : stateOfWord (stateWord (p .header)) ≡ Active
     pub short : length (listedItems items) < 126
-    pub done : outcomeOf write image page n .answer ≡ Done
-        → (imageOf write image page n ≡ run (itemPlan (entryUnits write page) start (suc (length new)) (p .map)) image)
-        × (outcomeOf write image page n .page ≡ withItem page (suc (length new)) (namespaceOf entry) (hashOfItem entry))
+    pub done : outcomeOf (callOf write) image page n .answer ≡ Done
+        → (imageOf (callOf write) image page n ≡ run (itemPlan (entryUnits (putRequest write) page) start (suc (length new)) (p .map)) image)
+        × (outcomeOf (callOf write) image page n .page ≡ withItem page (suc (length new)) (namespaceOf entry) (hashOfItem entry))
 
   -- what the checks that all share tell
   usable-active : {checks : List Check} → Usable image page (not (isActive (page .state))) checks → stateOfWord (stateWord (p .header)) ≡ Active
@@ -130,7 +131,7 @@ module _ {image : List ℕ} {items : List Item} (p : Standing image items) where
     unfolding appendSingle appendSingleImage singlePlan
     started-single b =
         let checks = singleChecks image page request in
-        let us = entryUnits (a-single request asked) page in
+        let us = entryUnits (single request) page in
         let plan = singlePlan page request in
         let made = withSingle page request in
         let ok = begins-accepted checks refl (stops n plan) page made b in
@@ -154,7 +155,7 @@ module _ {image : List ℕ} {items : List Item} (p : Standing image items) where
   -- ---- a payload
 
   module _ (request : Variable) (payload : List ℕ) (asked : VariableRequest request payload) (n : ℕ) where
-    abbrev variable : Write
+    abbrev variable : AppendOrCopy
     variable = a-variable request payload asked
 
     variable-hash : hashOfItem (variableHeader request payload) ≡ hashOf (request .namespace) (request .key) (request .chunk)
@@ -175,7 +176,7 @@ module _ {image : List ℕ} {items : List Item} (p : Standing image items) where
     started-variable b =
         let span = spanFor (length payload) in
         let checks = variableChecks image page request payload in
-        let us = entryUnits variable page in
+        let us = entryUnits (putRequest variable) page in
         let plan = variablePlan page request payload in
         let made = withVariable page request payload in
         let ok = begins-accepted checks refl (stops n plan) page made b in
@@ -203,7 +204,7 @@ module _ {image : List ℕ} {items : List Item} (p : Standing image items) where
   -- ---- a copy
 
   module _ (source : List ℕ) (index : ℕ) (entries : Entries) (kept : KeptIn source index entries) (n : ℕ) where
-    abbrev copied : Write
+    abbrev copied : AppendOrCopy
     copied = a-copy source index entries kept
 
     abbrev there : WholeAt index entries (entriesOf source)
@@ -214,7 +215,7 @@ module _ {image : List ℕ} {items : List Item} (p : Standing image items) where
     started-copy b =
         let entry = entryAt source index in
         let checks = copyChecks image page source index in
-        let us = entryUnits copied page in
+        let us = entryUnits (putRequest copied) page in
         let span = spanOf entry in
         let plan = copyPlan page source index in
         let made = withCopy page source index in
@@ -249,7 +250,7 @@ module _ {image : List ℕ} {items : List Item} (p : Standing image items) where
 
   -- ---- any of them
 
-  pub started : (write : Write) (n : ℕ) → Begins write image page n → Started write n
+  pub started : (write : AppendOrCopy) (n : ℕ) → Begins write image page n → Started write n
   started (a-single request asked) n b = started-single request asked n b
   started (a-variable request payload asked) n b = started-variable request payload asked n b
   started (a-copy source index entries kept) n b = started-copy source index entries kept n b

@@ -22,7 +22,8 @@ use Rattle.call_append.specs.Append.{singleChecks, singlePlan, withSingle, appe
 use Rattle.call_copy.specs.Copy.{copyChecks, copyPlan, withCopy, copyIn}
 use Rattle.opening_reading.specs.Reading.{Item, item}
 use Rattle.opening.specs.Opening.{keptItems, opening}
-use Rattle.theorem_power_cut.specs.History.{Write, a-single, a-variable, a-copy, outcomeOf, imageOf, entryUnits, newItem}
+use Rattle.theorem_writing.specs.Promises.{outcomeOf, imageOf, entryUnits}
+use Rattle.theorem_power_cut.specs.History.{AppendOrCopy, a-single, a-variable, a-copy, newItem, callOf, putRequest}
 use Rattle.theorem_power_cut.specs.PowerCut.{Begins}
 use Rattle.theorem_power_cut.proofs.Standing.{Standing, standing-size, front-bytes}
 use Rattle.theorem_power_cut.proofs.Begun.{marks, plan, headerAt, restAt, image-before, image-after, headerAt-size, kept-before, kept-after, header-after, run-plan, standing-after, after-header, after-map, after-front}
@@ -39,7 +40,7 @@ never true b e = let z : _≡_ {A = ℕ} 0 1 = cc in omega arith
 never false true e = let z : _≡_ {A = ℕ} 0 1 = cc in omega arith
 never false false e = let z : _≡_ {A = ℕ} 0 1 = cc in omega arith
 
-pub blank-refuses : (write : Write) (image : List ℕ) (n : ℕ) → Begins write image uninitialized n → ⊥
+pub blank-refuses : (write : AppendOrCopy) (image : List ℕ) (n : ℕ) → Begins write image uninitialized n → ⊥
 unfolding appendSingle appendVariable copyIn
 blank-refuses (a-single request asked) image n b =
     never (badImage image .0) (badRecord uninitialized .0)
@@ -71,12 +72,12 @@ module _ {image : List ℕ} {items : List Item} (p : Standing image items) (open
       header-is : take 32 image ≡ p .header
       header-is = ap (take 32) (p .split) ∙ take-at (p .header) (p .map ++ (p .used ++ replicate (32 * p .spare) 0xFF)) 32 (p .header-size)
 
-  module _ {write : Write} {n : ℕ} (s : Started p write n) where
+  module _ {write : AppendOrCopy} {n : ℕ} (s : Started p write n) where
     word : take 4 (p .header) ≡ stateBytes Active
     word = active-word header-bytes (p .header-size) (s .active)
 
     abbrev us : List Unit4
-    us = entryUnits write (page p)
+    us = entryUnits (putRequest write) (page p)
 
     -- ---- cut after n units
 
@@ -97,14 +98,14 @@ module _ {image : List ℕ} {items : List Item} (p : Standing image items) (open
     new-is : newItem write (page p) ≡ item (start p) (s .entry ∷ s .new)
     new-is = ap₂ item (next-is p) (s .entries-is)
 
-    pub cut-opens : opening (imageOf write image (page p) n) .answer ≡ Done
+    pub cut-opens : opening (imageOf (callOf write) image (page p) n) .answer ≡ Done
     unfolding opening
     cut-opens =
         let cut = run (take n (plan p (s .lays))) image in
         let size : length cut ≡ 4096 = length-run (take n (plan p (s .lays))) image ∙ standing-size p in
         rw (s .image-is, eq-eqb (length cut) 4096 size, opens-of cut opens-cut)
 
-    pub cut-kept : keptItems (imageOf write image (page p) n) ≡ cond (leb n (length us)) items (items ++ (newItem write (page p) ∷ []))
+    pub cut-kept : keptItems (imageOf (callOf write) image (page p) n) ≡ cond (leb n (length us)) items (items ++ (newItem write (page p) ∷ []))
     cut-kept = ap keptItems (s .image-is) ∙ by-order (decLe n (length us))
       where
         by-order : Dec (n ≤ length us) → keptItems (run (take n (plan p (s .lays))) image) ≡ cond (leb n (length us)) items (items ++ (newItem write (page p) ∷ []))
@@ -115,8 +116,8 @@ module _ {image : List ℕ} {items : List Item} (p : Standing image items) (open
 
     -- ---- done
 
-    pub done-held : outcomeOf write image (page p) n .answer ≡ Done
-        → Held (imageOf write image (page p) n) (outcomeOf write image (page p) n .page) (items ++ (newItem write (page p) ∷ []))
+    pub done-held : outcomeOf (callOf write) image (page p) n .answer ≡ Done
+        → Held (imageOf (callOf write) image (page p) n) (outcomeOf (callOf write) image (page p) n .page) (items ++ (newItem write (page p) ∷ []))
     done-held d =
         let span = suc (length (s .new)) in
         let after = standing-after p (s .lays) in

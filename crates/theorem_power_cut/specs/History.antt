@@ -9,8 +9,7 @@ use mathlib.Core.List.{List, [], _∷_, _++_, List·Memᴰ}
 use Prim.Native.Nat.{ℕ, _-_, _*_, _<_}
 use lib.Dec.{ltb, eqb}
 use lib.ListN.{length, replicate}
-use Rattle.flash.specs.Flash.{every, Unit4}
-use Rattle.page.specs.declared.Outcome.{Outcome}
+use Rattle.flash.specs.Flash.{every}
 use Rattle.page.specs.declared.ThinPage.{ThinPage}
 use Rattle.page.specs.Record.{nextFree}
 use Rattle.sector.specs.declared.Answer.the-variants.{Done}
@@ -19,7 +18,7 @@ use Rattle.call_append.specs.declared.Single.{Single}
 use Rattle.call_append.specs.declared.Variable.{Variable}
 use Rattle.call_append.specs.Append.{singleBytes, variableHeader, spanFor}
 use Rattle.call_erase.specs.Erase.{erase, eraseImage}
-use Rattle.theorem_writing.specs.Promises.{NewItem, single, variable, copied, putting, outcomeOf as outcomeOfCall, imageOf as imageOfCall, entryUnits as entryUnitsOf}
+use Rattle.theorem_writing.specs.Promises.{PutRequest, single, variable, copied, Call, putting, outcomeOf, imageOf}
 use Rattle.opening_reading.specs.Reading.{Item, item}
 use Rattle.opening.specs.Opening.{opening, openingImage, keptItems}
 
@@ -61,42 +60,34 @@ pub record KeptIn (source : List ℕ) (index : ℕ) (entries : List (List ℕ)) 
 -- ---- one more append or copy
 
 -- what is begun: a single entry (a namespace is `a-single (namespaceItem key value)`), data, or a copy of a kept item
-pub data Write : Type 0 where
-  a-single : (request : Single) → SingleRequest request → Write
-  a-variable : (request : Variable) (payload : List ℕ) → VariableRequest request payload → Write
-  a-copy : (source : List ℕ) (index : ℕ) (entries : List (List ℕ)) → KeptIn source index entries → Write
+pub data AppendOrCopy : Type 0 where
+  a-single : (request : Single) → SingleRequest request → AppendOrCopy
+  a-variable : (request : Variable) (payload : List ℕ) → VariableRequest request payload → AppendOrCopy
+  a-copy : (source : List ℕ) (index : ℕ) (entries : List (List ℕ)) → KeptIn source index entries → AppendOrCopy
 
 -- the request alone, as the calls take it
-abbrev pub asked : Write → NewItem
-asked (a-single request ok) = single request
-asked (a-variable request payload ok) = variable request payload
-asked (a-copy source index entries ok) = copied source index
+abbrev pub putRequest : AppendOrCopy → PutRequest
+putRequest (a-single request ok) = single request
+putRequest (a-variable request payload ok) = variable request payload
+putRequest (a-copy source index entries ok) = copied source index
 
--- what the call hands back when told to stop after n units
-abbrev pub outcomeOf : Write → List ℕ → ThinPage → ℕ → Outcome
-outcomeOf write image page n = outcomeOfCall (putting (asked write)) image page n
-
--- what it then leaves in the image
-abbrev pub imageOf : Write → List ℕ → ThinPage → ℕ → List ℕ
-imageOf write image page n = imageOfCall (putting (asked write)) image page n
+-- the call that it is
+abbrev pub callOf : AppendOrCopy → Call
+callOf write = putting (putRequest write)
 
 -- a payload in its k entries, the last one filled up with 0xFF
 abbrev pub payloadEntries : ℕ → List ℕ → List (List ℕ)
 payloadEntries k payload = chunks k (payload ++ replicate (entrySize * k - length payload) 0xFF)
 
 -- the bytes of the item that it writes, entry by entry
-abbrev pub entriesOfWrite : Write → List (List ℕ)
+abbrev pub entriesOfWrite : AppendOrCopy → List (List ℕ)
 entriesOfWrite (a-single request ok) = singleBytes request ∷ []
 entriesOfWrite (a-variable request payload ok) =
     variableHeader request payload ∷ payloadEntries (spanFor (length payload) - 1) payload
 entriesOfWrite (a-copy source index entries ok) = entries
 
--- the units of the item's entries, before the first unit of the entry map
-abbrev pub entryUnits : Write → ThinPage → List Unit4
-entryUnits write page = entryUnitsOf (asked write) page
-
 -- the new item: next free is its index
-abbrev pub newItem : Write → ThinPage → Item
+abbrev pub newItem : AppendOrCopy → ThinPage → Item
 newItem write page = item (nextFree page) (entriesOfWrite write)
 
 -- ---- histories
@@ -109,9 +100,9 @@ withoutItem index (item i entries ∷ items) = cond (eqb i index) (withoutItem i
 pub data History : List ℕ → ThinPage → List Item → Type 0 where
   opened : {image : List ℕ} → Sector image → opening image .answer ≡ Done
       → History (openingImage image) (opening image .page) (keptItems image)
-  written : {image : List ℕ} {page : ThinPage} {items : List Item} (write : Write) (n : ℕ) → History image page items
-      → outcomeOf write image page n .answer ≡ Done
-      → History (imageOf write image page n) (outcomeOf write image page n .page) (items ++ (newItem write page ∷ []))
+  written : {image : List ℕ} {page : ThinPage} {items : List Item} (write : AppendOrCopy) (n : ℕ) → History image page items
+      → outcomeOf (callOf write) image page n .answer ≡ Done
+      → History (imageOf (callOf write) image page n) (outcomeOf (callOf write) image page n .page) (items ++ (newItem write page ∷ []))
   erased : {image : List ℕ} {page : ThinPage} {items : List Item} (index : ℕ) (entries : List (List ℕ)) → History image page items
       → List·Memᴰ (item index entries) items
       → erase image page index (length entries) .answer ≡ Done

@@ -1,7 +1,7 @@
 -- Demand 3: what a page holds after any history, and after a power cut in one more append or copy.
 --
 -- In order: the demand in plain words, each sentence the statement below it; then initialise cut short; then opening itself cut short.
--- A cut after n whole units of a call leaves what the call leaves when told to stop after n: `imageOf write image page n`.
+-- A cut after n whole units of a call leaves what the call leaves when told to stop after n: `imageOf (callOf write) image page n`.
 -- What opening finds is the reading's kept items: index and bytes of each, namespace entries included.
 -- Each statement is a type; proofs/ has a proof of each.
 -- Assumes that a unit is done or not, and that a byte is stored as old AND new.
@@ -25,10 +25,10 @@ use Rattle.call_load_data.specs.Payload.{roundedUp, dataAnswer, dataOutput}
 use Rattle.call_append.specs.declared.Variable.{Variable}
 use Rattle.call_page_state.specs.Calls.{initialiseChecks, initialisePlan, initialise, initialiseImage}
 use Rattle.call_erase.specs.Erase.{erase, eraseImage}
-use Rattle.theorem_writing.specs.Promises.{SetsNoBit, AsInCode}
+use Rattle.theorem_writing.specs.Promises.{SetsNoBit, AsInCode, outcomeOf, imageOf, entryUnits}
 use Rattle.opening_reading.specs.Reading.{Item, item}
 use Rattle.opening.specs.Opening.{headerVerdictOf, headerOf, keptItems, planFor, opening, openingImage}
-use Rattle.theorem_power_cut.specs.History.{Sector, VariableRequest, Write, a-variable, outcomeOf, imageOf, entriesOfWrite, entryUnits, newItem, History}
+use Rattle.theorem_power_cut.specs.History.{Sector, VariableRequest, AppendOrCopy, a-variable, entriesOfWrite, newItem, History, callOf, putRequest}
 
 -- ---- the demand
 
@@ -61,27 +61,27 @@ abbrev pub RecordIsFit : Type 0
 RecordIsFit = (image : List ℕ) (page : ThinPage) (items : List Item) → History image page items → fitToUse page ≡ true
 
 -- a write begins: no check refuses it
-abbrev pub Begins : Write → List ℕ → ThinPage → ℕ → Type 0
-Begins write image page n = (outcomeOf write image page n .answer ≡ Done) ⊎ (outcomeOf write image page n .answer ≡ Stopped)
+abbrev pub Begins : AppendOrCopy → List ℕ → ThinPage → ℕ → Type 0
+Begins write image page n = (outcomeOf (callOf write) image page n .answer ≡ Done) ⊎ (outcomeOf (callOf write) image page n .answer ≡ Stopped)
 
 -- one more append or copy, cut after any n: opening is accepted; it finds the earlier items where n is at or before the last entry unit,
 -- and those and the new one, whole, from the first entry-map unit on
 abbrev pub AbsentOrWhole : Type 0
 AbsentOrWhole =
     (image : List ℕ) (page : ThinPage) (items : List Item) → History image page items
-    → (write : Write) (n : ℕ) → Begins write image page n
-    → (opening (imageOf write image page n) .answer ≡ Done)
-    × (keptItems (imageOf write image page n)
-    ≡ cond (leb n (length (entryUnits write page))) items (items ++ (newItem write page ∷ [])))
+    → (write : AppendOrCopy) (n : ℕ) → Begins write image page n
+    → (opening (imageOf (callOf write) image page n) .answer ≡ Done)
+    × (keptItems (imageOf (callOf write) image page n)
+    ≡ cond (leb n (length (entryUnits (putRequest write) page))) items (items ++ (newItem write page ∷ [])))
 
 -- no write of it, at any n, sets a cleared bit or alters another entry's bytes
 abbrev pub AltersNoOtherEntry : Type 0
 AltersNoOtherEntry =
     (image : List ℕ) (page : ThinPage) (items : List Item) → History image page items
-    → (write : Write) (n : ℕ) → Begins write image page n
-    → SetsNoBit image (imageOf write image page n)
+    → (write : AppendOrCopy) (n : ℕ) → Begins write image page n
+    → SetsNoBit image (imageOf (callOf write) image page n)
     × ((i : ℕ) → i < entriesPerPage → (i < nextFree page) ⊎ (nextFree page + length (entriesOfWrite write) ≤ i)
-    → entryAt (imageOf write image page n) i ≡ entryAt image i)
+    → entryAt (imageOf (callOf write) image page n) i ≡ entryAt image i)
 
 -- nor does an erasure set a cleared bit, and it alters no entry's bytes
 abbrev pub ErasesMarksAlone : Type 0

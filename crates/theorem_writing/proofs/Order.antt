@@ -31,7 +31,7 @@ use Rattle.call_copy.specs.Copy.{copiedBytes, copyPlan}
 use Rattle.call_erase.specs.Erase.{erasePlan}
 use Rattle.call_purge.specs.Purge.{heldSpan, purgePlan, purgeImage}
 use Rattle.call_purge_namespace.specs.PurgeNamespace.{toZero, zeroUnits, purgeNamespacePlan}
-use Rattle.theorem_writing.specs.Promises.{NewItem, single, variable, copied, initialising, markingFull, putting, erasing, purging, formed, spanOfNew, Write, rises, inOrder, marking, entryUnits, itemWrites, zeroWrites, joined, WritesInOrder, outside, PurgeInOrder, PurgesItsEntries, PurgesNothingPast}
+use Rattle.theorem_writing.specs.Promises.{PutRequest, single, variable, copied, initialising, markingFull, putting, erasing, purging, formed, spanOfNew, Write, rises, inOrder, marking, entryUnits, itemWrites, zeroWrites, unitsOf, WritesInOrder, outside, PurgeInOrder, PurgesItsEntries, PurgesNothingPast}
 
 -- ---- units that rise
 
@@ -114,7 +114,7 @@ rises-marks i n map =
     let long : length part ≤ 4 * count = rw length-take (omega arith) in
     rises-units (mapOffset + 4 * first) part (marking i n [] .to) (omega arith)
 
-rises-entries : (new : NewItem) (page : ThinPage) → formed (putting new) ≡ true
+rises-entries : (new : PutRequest) (page : ThinPage) → formed (putting new) ≡ true
     → rises (entryAddress (nextFree page)) (entryAddress (nextFree page + spanOfNew new)) (entryUnits new page) ≡ true
 rises-entries (single item) page h =
     let both = and-eq-true-iff (eqb (length (item .key)) 16) (eqb (length (item .bytes)) 8) .0 h in
@@ -139,14 +139,14 @@ rises-entries (copied source i) page h =
     let size : length (copiedBytes source i) ≤ 32 * span = rw length-take (omega arith) in
     rises-units (entryAddress start) (copiedBytes source i) (entryAddress (start + span)) (omega arith)
 
-item-joined : (new : NewItem) (page : ThinPage) → joined (itemWrites new page) ≡ itemPlan (entryUnits new page) (nextFree page) (spanOfNew new) (page .map)
+units-of-item : (new : PutRequest) (page : ThinPage) → unitsOf (itemWrites new page) ≡ itemPlan (entryUnits new page) (nextFree page) (spanOfNew new) (page .map)
 unfolding itemPlan
-item-joined new page =
+units-of-item new page =
     let start = nextFree page in
     let span = spanOfNew new in
     ap (λ (full : List Unit4). entryUnits new page ++ (mapUnits start span (markRange Written start span (page .map)) ++ full)) (append-nil (fullUnits (start + span)))
 
-item-in-order : (new : NewItem) (page : ThinPage) → formed (putting new) ≡ true → every inOrder (itemWrites new page) ≡ true
+item-in-order : (new : PutRequest) (page : ThinPage) → formed (putting new) ≡ true → every inOrder (itemWrites new page) ≡ true
 item-in-order new page h =
     let start = nextFree page in
     let span = spanOfNew new in
@@ -159,22 +159,22 @@ zero-in-order i (true ∷ zs) =
     rw (rises-units (entryAddress i) (replicate 32 0) (entryAddress (suc i)) (omega arith)) (zero-in-order (suc i) zs)
 zero-in-order i (false ∷ zs) = rw (rises-nil (entryAddress i) (entryAddress (suc i))) (zero-in-order (suc i) zs)
 
-joined-zero : (i : ℕ) (zs : List Bool) → joined (zeroWrites i zs) ≡ zeroUnits i zs
+units-of-zero : (i : ℕ) (zs : List Bool) → unitsOf (zeroWrites i zs) ≡ zeroUnits i zs
 unfolding zeroWrites zeroUnits
-joined-zero i [] = refl
-joined-zero i (z ∷ zs) = ap (λ (rest : List Unit4). cond z (units (entryAddress i) (replicate 32 0)) [] ++ rest) (joined-zero (suc i) zs)
+units-of-zero i [] = refl
+units-of-zero i (z ∷ zs) = ap (λ (rest : List Unit4). cond z (units (entryAddress i) (replicate 32 0)) [] ++ rest) (units-of-zero (suc i) zs)
 
 pub writes-in-order : WritesInOrder
 unfolding initialisePlan markFullPlan singlePlan variablePlan copyPlan erasePlan purgeNamespacePlan
 writes-in-order (initialising sequence) image page h = (append-nil (initialisePlan sequence), rw (rises-header sequence))
 writes-in-order markingFull image page h = (append-nil markFullPlan, rw (rises-units 0 (stateBytes Full) 4 (omega arith)))
-writes-in-order (putting (single item)) image page h = (item-joined (single item) page, item-in-order (single item) page h)
-writes-in-order (putting (variable item payload)) image page h = (item-joined (variable item payload) page, item-in-order (variable item payload) page h)
-writes-in-order (putting (copied source i)) image page h = (item-joined (copied source i) page, item-in-order (copied source i) page h)
+writes-in-order (putting (single item)) image page h = (units-of-item (single item) page, item-in-order (single item) page h)
+writes-in-order (putting (variable item payload)) image page h = (units-of-item (variable item payload) page, item-in-order (variable item payload) page h)
+writes-in-order (putting (copied source i)) image page h = (units-of-item (copied source i) page, item-in-order (copied source i) page h)
 writes-in-order (erasing index span) image page h =
     (append-nil (erasePlan page index span), rw (rises-marks index span (markRange Erased index span (page .map))))
 writes-in-order (purging namespace) image page h =
-    let zs = toZero namespace zero false (statesOf (page .map)) (entriesOf image) in (joined-zero 0 zs, zero-in-order 0 zs)
+    let zs = toZero namespace zero false (statesOf (page .map)) (entriesOf image) in (units-of-zero 0 zs, zero-in-order 0 zs)
 
 -- ---- a byte that no write reaches
 
@@ -206,12 +206,12 @@ outside-write i write o h = by-tests (ltb i (write .from)) (leb (write .to) i) r
     by-tests false true b e h = outside-rises i (write .from) (write .to) (write .plan) o (inr (leb-true (write .to) i e))
     by-tests false false b e h = outside-none i (write .plan) (eqb-true (length (write .plan)) 0 h)
 
-pub outside-joined : (i : ℕ) (writes : List Write) → every inOrder writes ≡ true → every (outside i) writes ≡ true → Outside i (i + 1) (joined writes)
-outside-joined i [] o h = outside-nil
-outside-joined i (write ∷ writes) o h =
+pub outside-units-of : (i : ℕ) (writes : List Write) → every inOrder writes ≡ true → every (outside i) writes ≡ true → Outside i (i + 1) (unitsOf writes)
+outside-units-of i [] o h = outside-nil
+outside-units-of i (write ∷ writes) o h =
     let order = and-eq-true-iff (inOrder write) (every inOrder writes) .0 o in
     let away = and-eq-true-iff (outside i write) (every (outside i) writes) .0 h in
-    outside-append (outside-write i write (order .0) (away .0)) (outside-joined i writes (order .1) (away .1))
+    outside-append (outside-write i write (order .0) (away .0)) (outside-units-of i writes (order .1) (away .1))
 
 -- so it is not altered
 first-of-drop : (xs : List ℕ) (i : ℕ) → getD (take 1 (drop i xs)) 0 0 ≡ getD xs i 0

@@ -28,7 +28,7 @@ use Rattle.call_append.specs.Append.{singleChecks, variableChecks, singlePlan, 
 use Rattle.call_copy.specs.Copy.{copyChecks, copyPlan, withCopy, copyIn}
 use Rattle.call_purge.specs.Purge.{purgePlan, purge, purgeImage}
 use Rattle.theorem_writing.specs.Promises.{single, variable, copied, initialising, markingFull, putting, erasing, purging, checksOf, planOf, newOf, PlainFromTotal, StoppedLeavesFirst, StopsBelowTotal, isRefusal, RefusedChangesNothing, RefusedPurgesNothing, earlierChecks, PageFullExactly, SetsNoBit, OnlyClearsBits, PurgeOnlyClearsBits, writesOf, AltersNothingElse}
-use Rattle.theorem_writing.proofs.Order.{writes-in-order, outside-joined, getD-after}
+use Rattle.theorem_writing.proofs.Order.{writes-in-order, outside-units-of, getD-after}
 use Rattle.theorem_writing.proofs.Answers.{checks-refuse, copied-span, stopped-only, refusal-only, told}
 
 -- ---- the total
@@ -211,6 +211,6 @@ alters-nothing-else call image page n f i away =
     let t = told call image page n in
     let plan = planOf call image page in
     let writes = writes-in-order call image page f in
-    let unreached : Outside i (i + 1) plan = subst (Outside i (i + 1)) (writes .0) (outside-joined i (writesOf call image page) (writes .1) away) in
+    let unreached : Outside i (i + 1) plan = subst (Outside i (i + 1)) (writes .0) (outside-units-of i (writesOf call image page) (writes .1) away) in
     ap (λ (after : List ℕ). getD after i 0) (t .image-is)
     ∙ getD-after i (accepted (checksOf call image page)) (take (t .count) plan) image (outside-take (t .count) unreached)

@@ -35,16 +35,16 @@ use Rattle.call_purge_namespace.specs.PurgeNamespace.{toZero, purgeNamespaceChe
 -- ---- the calls
 
 -- an item to put: a single (a namespace entry is one), data of any length, or a copy from a source image by index
-pub data NewItem : Type 0 where
-  single : Single → NewItem
-  variable : Variable → List ℕ → NewItem
-  copied : List ℕ → ℕ → NewItem
+pub data PutRequest : Type 0 where
+  single : Single → PutRequest
+  variable : Variable → List ℕ → PutRequest
+  copied : List ℕ → ℕ → PutRequest
 
 -- the calls that take a record; a call that cannot be stopped takes no heed of n
 pub data Call : Type 0 where
   initialising : ℕ → Call
   markingFull : Call
-  putting : NewItem → Call
+  putting : PutRequest → Call
   erasing : ℕ → ℕ → Call
   purging : ℕ → Call
 
@@ -156,13 +156,13 @@ RefusedPurgesNothing = (image : List ℕ) (index span : ℕ) → isRefusal (purg
 -- ---- PageFull
 
 -- the entries that an item takes
-abbrev pub spanOfNew : NewItem → ℕ
+abbrev pub spanOfNew : PutRequest → ℕ
 spanOfNew (single item) = 1
 spanOfNew (variable item payload) = spanFor (length payload)
 spanOfNew (copied source i) = spanOf (entryAt source i)
 
 -- the checks before those of its span
-abbrev pub earlierChecks : NewItem → List ℕ → ThinPage → List Check
+abbrev pub earlierChecks : PutRequest → List ℕ → ThinPage → List Check
 earlierChecks (single item) image page = badImage image ∷ badRecord page ∷ notActive page ∷ singleRequest item ∷ []
 earlierChecks (variable item payload) image page = badImage image ∷ badRecord page ∷ notActive page ∷ variableRequest item ∷ []
 earlierChecks (copied source i) image page =
@@ -178,7 +178,7 @@ earlierChecks (copied source i) image page =
 -- PageFull exactly where no earlier check refuses, the span is at most 126, and it is over the free entries
 abbrev pub PageFullExactly : Type 0
 PageFullExactly =
-    (new : NewItem) (image : List ℕ) (page : ThinPage) (n : ℕ)
+    (new : PutRequest) (image : List ℕ) (page : ThinPage) (n : ℕ)
     → ((outcomeOf (putting new) image page n .answer ≡ PageFull)
     → (accepted (earlierChecks new image page) ≡ true) × (spanOfNew new ≤ entriesPerPage) × (free page < spanOfNew new))
     × (accepted (earlierChecks new image page) ≡ true → spanOfNew new ≤ entriesPerPage → free page < spanOfNew new
@@ -221,14 +221,14 @@ marking start span marks =
     record { from = mapOffset + 4 * (start / 16); to = mapOffset + 4 * ((start + span - 1) / 16 + 1); plan = marks }
 
 -- the units of an item's bytes
-abbrev pub entryUnits : NewItem → ThinPage → List Unit4
+abbrev pub entryUnits : PutRequest → ThinPage → List Unit4
 entryUnits (single item) page = units (entryAddress (nextFree page)) (singleBytes item)
 entryUnits (variable item payload) page =
     units (entryAddress (nextFree page)) (variableHeader item payload) ++ units (entryAddress (nextFree page + 1)) payload
 entryUnits (copied source i) page = units (entryAddress (nextFree page)) (copiedBytes source i)
 
 -- its own entries, then the marks of its range, then the state word
-abbrev pub itemWrites : NewItem → ThinPage → List Write
+abbrev pub itemWrites : PutRequest → ThinPage → List Write
 itemWrites new page =
     record { from = entryAddress (nextFree page); to = entryAddress (nextFree page + spanOfNew new); plan = entryUnits new page }
     ∷ marking (nextFree page) (spanOfNew new)
@@ -251,15 +251,15 @@ writesOf (erasing index span) image page = marking index span (erasePlan page in
 writesOf (purging namespace) image page = zeroWrites 0 (toZero namespace zero false (statesOf (page .map)) (entriesOf image))
 
 -- the units of some writes, one write after the other
-abbrev pub joined : List Write → List Unit4
-joined [] = []
-joined (write ∷ writes) = write .plan ++ joined writes
+abbrev pub unitsOf : List Write → List Unit4
+unitsOf [] = []
+unitsOf (write ∷ writes) = write .plan ++ unitsOf writes
 
 -- the plan is those writes in that order, and units rise within each: so bytes come before marks, and marks before the state word
 abbrev pub WritesInOrder : Type 0
 WritesInOrder =
     (call : Call) (image : List ℕ) (page : ThinPage) → formed call ≡ true
-    → (joined (writesOf call image page) ≡ planOf call image page) × (every inOrder (writesOf call image page) ≡ true)
+    → (unitsOf (writesOf call image page) ≡ planOf call image page) × (every inOrder (writesOf call image page) ≡ true)
 
 -- purge programs its own entries, in rising address
 abbrev pub PurgeInOrder : Type 0

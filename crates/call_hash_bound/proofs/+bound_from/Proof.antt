@@ -14,7 +14,7 @@ use Rattle.sector.specs.Map.{statesOf, sameState}
 use Rattle.sector.proofs.Laws.{length-statesOf, getD-statesOf}
 use Rattle.sector_map.proofs.state_at.Reads as state-at-reads
 use Rattle.call_hash_bound.specs.Bound.{boundFrom}
-use Rattle.call_hash_bound.proofs.Laws.{bound-other, bound-written, counted-le, bound-le}
+use Rattle.call_hash_bound.proofs.Laws.{bound-other, bound-written, countOf-le, bound-le}
 use Rattle.call_hash_bound.proofs.bound_from.Reads as bound-from
 use Rattle.call_hash_bound.proofs.bound_from.Kinds as bound-from-kinds
 use Rattle.call_hash_bound.proofs.count_of.Reads as count-of-reads
@@ -130,7 +130,7 @@ module _ (t : ℕ) where
       let next = start .args .index + 1 + c .before .passed-behind .result in
       omega (
         arith,
-        counted-le (getD (entries start) (start .args .index) []),
+        countOf-le (getD (entries start) (start .args .index) []),
         bound-le 0 (drop next (states start)) (drop next (entries start)),
         length-drop next (states start),
         length-states start,

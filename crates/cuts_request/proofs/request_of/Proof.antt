@@ -10,30 +10,30 @@ use Rattle.sector.specs.Types.{kindOf}
 use Rattle.cuts_request.specs.declared.Number.{Number}
 use Rattle.cuts_request.specs.declared.Parsed.{Parsed}
 use Rattle.cuts_request.specs.declared.Wrong.the-variants.{Nothing, BadNamespace, BadType, BadKey, BadValue}
-use Rattle.cuts_request.specs.Words.{noNumber, isKey, keyBytes, typeOf, valueWidth, valueOf, valueBytes, refusedFor, decided}
-use Rattle.cuts_request.proofs.Laws.{numberOf-most, typeOf-most}
+use Rattle.cuts_request.specs.Words.{noNumber, isKey, keyBytes, typeOf, valueWidth, valueOf, valueBytes, refusedFor, wordsChecked}
+use Rattle.cuts_request.proofs.Laws.{numberIn-most, typeOf-most}
 use Rattle.cuts_request.proofs.request_of.Statement.{statement}
 use Rattle.cuts_request.proofs.request_of.Tie as tie
 
 -- Each `return`, over what the words were read as: `found`, `typed` and `got` are the results, `space`, `named` and `read` the definitions.
 module _ (found space typed named got read : Number) (key : List ℕ) (short : Bool) (e : found ≡ space) where
   wrong-namespace : {result : Parsed} → not (found .good) ≡ true → result ≡ refusedFor BadNamespace
-      → result ≡ decided space named key read
+      → result ≡ wordsChecked space named key read
   wrong-namespace t r = r ∙ rw (← e, t)
 
   module _ (right : not (found .good) ≡ false) (f : typed ≡ named) where
     wrong-type : {result : Parsed} → not (typed .good) ≡ true → result ≡ refusedFor BadType
-        → result ≡ decided space named key read
+        → result ≡ wordsChecked space named key read
     wrong-type t r = r ∙ rw (← e, right, ← f, t)
 
     module _ (right-type : not (typed .good) ≡ false) (g : short ≡ isKey key) where
       wrong-key : {result : Parsed} → not short ≡ true → result ≡ refusedFor BadKey
-          → result ≡ decided space named key read
+          → result ≡ wordsChecked space named key read
       wrong-key t r = r ∙ rw (← e, right, ← f, right-type, ← g, t)
 
       module _ (right-key : not short ≡ false) (h : got ≡ read) where
         wrong-value : {result : Parsed} → not (got .good) ≡ true → result ≡ refusedFor BadValue
-            → result ≡ decided space named key read
+            → result ≡ wordsChecked space named key read
         wrong-value t r = r ∙ rw (← e, right, ← f, right-type, ← g, right-key, ← h, t)
 
         no-wrong : (kind : Kind) (keys bytes : List ℕ) (width : ℕ) → not (got .good) ≡ false
@@ -50,7 +50,7 @@ module _ (found space typed named got read : Number) (key : List ℕ) (short : B
                     bytes = bytes;
                   };
             }
-            ≡ decided space named key read
+            ≡ wordsChecked space named key read
         no-wrong kind keys bytes width t k l m n =
             rw (n, m, l, k, ← e, right, ← f, right-type, ← g, right-key, ← h, t)
 
@@ -114,7 +114,7 @@ cast-t19 c =
     let fourth = c .before .before .before .before .before .before in
     let second = fourth .before .before .before .before .before .before in
     let space = second .before .before .before .before .before in
-    let small = numberOf-most 0xFF (space .before .before .before .before .before .args .namespace .now) in
+    let small = numberIn-most 0xFF (space .before .before .before .before .before .args .namespace .now) in
     let same = ap (λ (n : Number). n .value) (space .number-of .ensures) in
     omega arith
 

@@ -3,7 +3,7 @@ use mathlib.Core.Path.{sym, ap, _∙_}
 use Prim.Native.Nat.{ℕ}
 use borrow.Author.Needs.{needs}
 use Rattle.sector.specs.declared.Kind.{Kind}
-use Rattle.cuts_request.specs.Words.{numberOf, mostOf}
+use Rattle.cuts_request.specs.Words.{numberIn, mostOf}
 use Rattle.cuts_request.proofs.value_of.Statement.{statement}
 use Rattle.cuts_request.proofs.value_of.Tie as tie
 
@@ -18,7 +18,7 @@ returns-2 c =
     let payload = sym (ap (λ (kind : Kind). kind .payload) (c .before .before .before .before .kind-of .ensures)) in
     let most = c .before .most-of .ensures ∙ ap mostOf (c .before .before .value-width .ensures) in
     rw (payload, c .before .before .before .if1 .left)
-    (c .number-of .ensures ∙ ap (λ (most : ℕ). numberOf most (z .text .now)) most)
+    (c .number-of .ensures ∙ ap (λ (most : ℕ). numberIn most (z .text .now)) most)
 
 pub value-of-spec : {M : Type 1} → statement M
 value-of-spec =

@@ -6,7 +6,7 @@ use Rattle.opening.proofs.kept.listed_by.Tie as tie
 returns-4 : tie.Need-returns-4
 returns-4 c =
     let read = c .before in
-    rw (read .before .enum-told4 .given .1, ← read .entry-at .ensures) (c .with-item .ensures)
+    rw (read .before .enum-told4 .given .1, ← read .entry-at .ensures) (c .with-listed .ensures)
 
 pub listed-by-spec : {M : Type 1} → statement M
 listed-by-spec =

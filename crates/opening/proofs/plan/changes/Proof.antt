@@ -12,7 +12,7 @@ use Rattle.opening.specs.declared.Listing.{Listing}
 use Rattle.opening_reading.specs.Reading.{shutBeforeTail, openedStates}
 use Rattle.opening_marks.specs.Marks.{firstPass}
 use Rattle.opening.specs.Opening.{keptItems, listedItems, openedMap, refusedHeaders, firstMap, openedPage}
-use Rattle.opening.specs.Steps.{listingOf, recordOf}
+use Rattle.opening.specs.Steps.{listingOf, headerRecord}
 use Rattle.opening_marks.proofs.Arrays.{bytes-of-array}
 use Rattle.opening_marks.proofs.Passes.{map-states}
 use Rattle.opening.proofs.plan.changes.Statement.{statement}
@@ -73,7 +73,7 @@ unfolding keptItems
 listed c = c .walk .ensures .3 ∙ rw (map-read (c .before))
 
 returns : tie.Need-returns
-unfolding openedPage recordOf
+unfolding openedPage headerRecord
 returns c =
     let passed = c .before .before in
     let shut = passed .before .before in
@@ -81,7 +81,7 @@ returns c =
     let image = walked .before .before .before .args .image .now in (
       map-read (walked .before),
       first-map passed,
-      c .record-of .ensures ∙ ap₂ (λ (map : List ℕ) (listing : Listing). recordOf image map listing) (opened-map shut) (listed walked),
+      c .header-record .ensures ∙ ap₂ (λ (map : List ℕ) (listing : Listing). headerRecord image map listing) (opened-map shut) (listed walked),
     )
 
 pub changes-spec : {M : Type 1} → statement M

@@ -1,12 +1,12 @@
 -- `buffers::size_of` meets its contract: the table is the definition's.
 use mathlib.Core.Path.{refl}
 use borrow.Author.Needs.{needs}
-use Rattle.recorded_file.specs.Buffers.{sizeOf}
+use Rattle.recorded_file.specs.Buffers.{bufferSize}
 use Rattle.recorded_file.proofs.buffers.size_of.Statement.{statement}
 use Rattle.recorded_file.proofs.buffers.size_of.Tie as tie
 
 returns : tie.Need-returns
-unfolding sizeOf
+unfolding bufferSize
 returns c = refl
 
 pub size-of-spec : {M : Type 1} → statement M

@@ -1,4 +1,4 @@
--- `plan::record_of` meets its contract: each field is read where its definition says, and the counts fit a byte.
+-- `plan::header_record` meets its contract: each field is read where its definition says, and the counts fit a byte.
 use mathlib.Core.Path.{_≡_, ap, _∙_}
 use Prim.Native.Nat.{_+_}
 use native.Mathlib.Omega.{arith}
@@ -6,9 +6,9 @@ use borrow.Author.Needs.{needs}
 use Rattle.sector.specs.Header.{stateOfWord}
 use Rattle.sector.specs.Map.{statistics}
 use Rattle.sector.proofs.Laws.{statistics-sum}
-use Rattle.opening.specs.Steps.{recordOf}
-use Rattle.opening.proofs.plan.record_of.Statement.{statement}
-use Rattle.opening.proofs.plan.record_of.Tie as tie
+use Rattle.opening.specs.Steps.{headerRecord}
+use Rattle.opening.proofs.plan.header_record.Statement.{statement}
+use Rattle.opening.proofs.plan.header_record.Tie as tie
 
 -- the four counts are of 126 entries
 counted : (c : tie.After-get-entry-statistics)
@@ -24,7 +24,7 @@ cast-erased : tie.Need-cast-erased
 cast-erased c = omega (arith, counted (c .before .before))
 
 returns : tie.Need-returns
-unfolding recordOf statistics
+unfolding headerRecord statistics
 returns c =
     let counted = c .before .before .before .before in
     let stated = counted .before .before .before in
@@ -35,8 +35,8 @@ returns c =
       counted .get-entry-statistics .ensures,
     )
 
-pub record-of-spec : {M : Type 1} → statement M
-record-of-spec =
+pub header-record-spec : {M : Type 1} → statement M
+header-record-spec =
     tie.close
     (tie.spec
     (λ c κs. search needs)

@@ -1,9 +1,9 @@
--- `kept::with_item` meets its contract: the place behind the last gets the item's hash and index.
+-- `kept::with_listed` meets its contract: the place behind the last gets the item's hash and index.
 use borrow.Author.Needs.{needs}
 use borrow.Author.Tests.{eq-eqb, ne-eqb}
 use Rattle.sector.specs.Layout.{namespaceOf}
-use Rattle.opening.proofs.kept.with_item.Statement.{statement}
-use Rattle.opening.proofs.kept.with_item.Tie as tie
+use Rattle.opening.proofs.kept.with_listed.Statement.{statement}
+use Rattle.opening.proofs.kept.with_listed.Tie as tie
 
 returns : tie.Need-returns
 returns c = rw (eq-eqb (namespaceOf (c .before .args .t2)) 0 (c .if1 .taken))
@@ -13,8 +13,8 @@ returns-2 c =
     let hashed = c .before in
     rw (ne-eqb (namespaceOf (hashed .before .before .args .t2)) 0 (hashed .before .if1 .left), hashed .hash-of-item .ensures)
 
-pub with-item-spec : {M : Type 1} → statement M
-with-item-spec =
+pub with-listed-spec : {M : Type 1} → statement M
+with-listed-spec =
     tie.close
     (tie.spec
     (λ c. search needs)
