@@ -23,3 +23,6 @@ pub const MAP_SIZE: usize = 32;
 pub const ENTRIES_SIZE: usize = 4032;
 
 pub const ITEM_SIZE: usize = 32;
+
+// Of a call that has no item.
+pub const NO_ITEM: [u8; 32] = [0; 32];

@@ -1,13 +1,13 @@
 // C functions with an answer of 57 bytes: width, load, raw read, load data, and the calls over a map.
 ghost use mathlib.Core.Path.{_≡_};
-ghost use Rattle.sector.specs.Map.{bitsOf};
 ghost use Rattle.boundary.specs.Boundary.{widthGiven, loadGiven, rawGiven, dataGiven, dataLeft, stateGiven, statisticsGiven, boundGiven};
 use crate::ANSWER_SIZE;
 use crate::BAD_CALL;
 use crate::ENTRIES_SIZE;
 use crate::MAP_SIZE;
+use crate::NO_ITEM;
 use sector::Answer;
-use sector::EntryMapState;
+use sector::bytes;
 
 // A primitive's width (`get_primitive_bytes_width`).
 #[no_mangle]
@@ -20,7 +20,7 @@ pub extern "C" fn nvs_width(byte: u8, buffer: &mut [u8]) -> u32
     }
     let found = sector_types::get_primitive_bytes_width(byte);
     let answer = found.answer;
-    boundary_results::give_number(buffer, answer, found.width as u64)
+    boundary_results::give(buffer, answer, found.width as u64, NO_ITEM)
 }
 
 // An item by its index (`load_item`).
@@ -35,7 +35,7 @@ pub extern "C" fn nvs_load(image: &[u8], index: u64, buffer: &mut [u8]) -> u32
     let loaded = call_load::load_item(image, index as usize);
     let answer = loaded.answer;
     let item = loaded.item;
-    boundary_results::give_item(buffer, answer, item)
+    boundary_results::give(buffer, answer, 0, item)
 }
 
 // An entry's bytes as they lie (`read_raw_entry`).
@@ -50,7 +50,7 @@ pub extern "C" fn nvs_raw_read(image: &[u8], index: u64, buffer: &mut [u8]) -> u
     let loaded = call_load::read_raw_entry(image, index as usize);
     let answer = loaded.answer;
     let item = loaded.item;
-    boundary_results::give_item(buffer, answer, item)
+    boundary_results::give(buffer, answer, 0, item)
 }
 
 // The data behind an item's header (`load_referenced_data_into`), and its size.
@@ -70,18 +70,7 @@ pub extern "C" fn nvs_load_data(
     }
     let loaded = call_load_data::load_referenced_data_into(image, index as usize, output);
     let answer = loaded.answer;
-    boundary_results::give_number(buffer, answer, loaded.size as u64)
-}
-
-fn bits_of(state: EntryMapState) -> u64
-    ensures { λ r. ⌜ r ≡ bitsOf state ⌝ }
-{
-    match state {
-        EntryMapState::Empty => 0b11,
-        EntryMapState::Written => 0b10,
-        EntryMapState::Erased => 0b00,
-        EntryMapState::Illegal => 0b01,
-    }
+    boundary_results::give(buffer, answer, loaded.size as u64, NO_ITEM)
 }
 
 // The two bits that a map holds for an entry (`get_entry_state`).
@@ -96,10 +85,10 @@ pub extern "C" fn nvs_entry_state(bytes: &[u8], index: u64, buffer: &mut [u8]) -
     if bytes.len() != MAP_SIZE {
         return BAD_CALL;
     }
-    let found = sector_map::get_entry_state(boundary_encoding::array_32(bytes), index as usize);
+    let found = sector_map::get_entry_state(bytes::array_32(bytes), index as usize);
     let answer = found.answer;
     let state = found.state;
-    boundary_results::give_number(buffer, answer, bits_of(state))
+    boundary_results::give(buffer, answer, sector_map::bits_of(state) as u64, NO_ITEM)
 }
 
 // How many entries are in each state (`get_entry_statistics`).
@@ -114,9 +103,8 @@ pub extern "C" fn nvs_statistics(bytes: &[u8], buffer: &mut [u8]) -> u32
     if bytes.len() != MAP_SIZE {
         return BAD_CALL;
     }
-    let counts = sector_map::get_entry_statistics(boundary_encoding::array_32(bytes));
-    let none = [0u8; 32];
-    boundary_encoding::put_answer(buffer, 0, 0, none, counts);
+    let counts = sector_map::get_entry_statistics(bytes::array_32(bytes));
+    boundary_encoding::put_answer(buffer, 0, 0, NO_ITEM, counts);
     0
 }
 
@@ -136,8 +124,8 @@ pub extern "C" fn nvs_hash_bound(bytes: &[u8], entries: &[u8], buffer: &mut [u8]
         return BAD_CALL;
     }
     let count = call_hash_bound::hashed_item_bound(
-        boundary_encoding::array_32(bytes),
+        bytes::array_32(bytes),
         boundary_encoding::entries_of(entries),
     );
-    boundary_results::give_number(buffer, Answer::Done, count as u64)
+    boundary_results::give(buffer, Answer::Done, count as u64, NO_ITEM)
 }

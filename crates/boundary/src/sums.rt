@@ -9,6 +9,7 @@ ghost use Rattle.boundary_encoding.specs.Encoding.{wrongSize};
 ghost use Rattle.boundary.specs.Boundary.{keySize, itemSize};
 use crate::ITEM_SIZE;
 use crate::KEY_SIZE;
+use sector::bytes;
 
 // The CRC of the data from a start value.
 #[no_mangle]
@@ -26,7 +27,7 @@ pub extern "C" fn nvs_item_crc(bytes: &[u8]) -> u32
     if bytes.len() != ITEM_SIZE {
         return 0;
     }
-    sector_item::item_crc(boundary_encoding::array_32(bytes))
+    sector_item::item_crc(bytes::array_32(bytes))
 }
 
 // The CRC over bytes 4..28 of a page header; 0 where it is not 32 bytes.
@@ -37,7 +38,7 @@ pub extern "C" fn nvs_header_crc(bytes: &[u8]) -> u32
     if bytes.len() != ITEM_SIZE {
         return 0;
     }
-    sector_header::header_crc(boundary_encoding::array_32(bytes))
+    sector_header::header_crc(bytes::array_32(bytes))
 }
 
 // The 24-bit hash of namespace, key and chunk; 0 where the key is not 16 bytes.
@@ -48,7 +49,7 @@ pub extern "C" fn nvs_hash(namespace: u8, key: &[u8], chunk: u8) -> u32
     if key.len() != KEY_SIZE {
         return 0;
     }
-    sector_hash::calculate_hash(namespace, boundary_encoding::array_16(key), chunk)
+    sector_hash::calculate_hash(namespace, bytes::array_16(key), chunk)
 }
 
 // The byte, or 0xFF where it is none of the thirteen types.

@@ -12,6 +12,7 @@ use crate::SINGLE_SIZE;
 use call_append::Single;
 use call_append::Variable;
 use sector::answers;
+use sector::bytes;
 
 // Opens a page (`open_page`); the record is only written, and on a refusal it is the Uninitialized one.
 #[no_mangle]
@@ -96,8 +97,8 @@ pub extern "C" fn nvs_append_single(
         kind,
         span: span as usize,
         chunk,
-        key: boundary_encoding::array_16(key),
-        bytes: boundary_encoding::array_8(bytes),
+        key: bytes::array_16(key),
+        bytes: bytes::array_8(bytes),
     };
     let page = boundary_encoding::record_of(&buffer[..]);
     let outcome = call_append::write_item(image, page, item, stop as usize);
@@ -123,7 +124,7 @@ pub extern "C" fn nvs_append_namespace(
     if key.len() != KEY_SIZE {
         return BAD_CALL;
     }
-    let name = boundary_encoding::array_16(key);
+    let name = bytes::array_16(key);
     let page = boundary_encoding::record_of(&buffer[..]);
     let outcome = call_append::write_namespace(image, page, name, value, stop as usize);
     boundary_results::hand_back(buffer, outcome)
@@ -155,7 +156,7 @@ pub extern "C" fn nvs_append_variable(
         namespace,
         kind,
         chunk,
-        key: boundary_encoding::array_16(key),
+        key: bytes::array_16(key),
     };
     let page = boundary_encoding::record_of(&buffer[..]);
     let outcome = call_append_variable::write_variable_sized_item(

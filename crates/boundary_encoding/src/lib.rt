@@ -4,23 +4,51 @@ ghost use mathlib.Core.Bool.{cond};
 ghost use mathlib.Core.List.{_++_};
 ghost use Prim.Native.Nat.{_+_, _≤_};
 ghost use lib.ListN.{length, take, drop};
-ghost use Rattle.sector.specs.Layout.{entriesPerPage, chunks, littleEndian};
+ghost use Rattle.sector.specs.Layout.{entriesPerPage, chunks};
 ghost use Rattle.boundary_encoding.specs.Encoding.{stateByte, stateOfByte, isState, placeBytes, placesBytes, placeOf, placesOf, recordSize, listOffset, headBytes, recordBytes, recordOf, answerSize, statisticsBytes, answerBytes};
 use page::Listed;
 use page::ThinPage;
+use sector::ENTRY_SIZE;
 use sector::PageState;
 use sector::Statistics;
 use sector::bytes;
 
-const LIST_OFFSET: usize = 45;
+// ---- where the parts of a record lie
 
-const PLACE_SIZE: usize = 5;
+const STATE_OFFSET: usize = 0;
+
+const SEQUENCE_OFFSET: usize = 1;
+
+const VERSION_OFFSET: usize = 5;
+
+const CRC_OFFSET: usize = 6;
 
 const MAP_OFFSET: usize = 10;
 
-const COUNTS_OFFSET: usize = 42;
+const USED_OFFSET: usize = 42;
 
-const ENTRY_SIZE: usize = 32;
+const ERASED_OFFSET: usize = 43;
+
+const LENGTH_OFFSET: usize = 44;
+
+const LIST_OFFSET: usize = 45;
+
+// A hash and an index.
+const PLACE_SIZE: usize = 5;
+
+// ---- where the parts of an answer lie
+
+const NUMBER_OFFSET: usize = 1;
+
+const ITEM_OFFSET: usize = 9;
+
+const EMPTY_OFFSET: usize = 41;
+
+const WRITTEN_OFFSET: usize = 45;
+
+const ERASED_COUNT_OFFSET: usize = 49;
+
+const ILLEGAL_OFFSET: usize = 53;
 
 // ---- states
 
@@ -58,36 +86,9 @@ fn used_of(state: u8, used: u8) -> u8
     if state <= 5 { used } else { 255 }
 }
 
-// ---- arrays out of slices
+// ---- entries
 
-pub fn array_8(bytes: &[u8]) -> [u8; 8]
-    requires { ⌜ length (now bytes) ≡ 8 ⌝ }
-    ensures { λ r. ⌜ r ≡ now (bytes .entry) ⌝ }
-{
-    let mut out = [0u8; 8];
-    bytes::put(&mut out, 0, bytes);
-    out
-}
-
-pub fn array_16(bytes: &[u8]) -> [u8; 16]
-    requires { ⌜ length (now bytes) ≡ 16 ⌝ }
-    ensures { λ r. ⌜ r ≡ now (bytes .entry) ⌝ }
-{
-    let mut out = [0u8; 16];
-    bytes::put(&mut out, 0, bytes);
-    out
-}
-
-pub fn array_32(bytes: &[u8]) -> [u8; 32]
-    requires { ⌜ length (now bytes) ≡ 32 ⌝ }
-    ensures { λ r. ⌜ r ≡ now (bytes .entry) ⌝ }
-{
-    let mut out = [0u8; 32];
-    bytes::put(&mut out, 0, bytes);
-    out
-}
-
-// The 126 entries that lie one behind the other.
+// The 126 entries that lie one after the other.
 pub fn entries_of(bytes: &[u8]) -> [[u8; 32]; 126]
     requires { ⌜ length (now bytes) ≡ 4032 ⌝ }
     ensures { λ r. ⌜ r ≡ chunks entriesPerPage (now (bytes .entry)) ⌝ }
@@ -97,7 +98,7 @@ pub fn entries_of(bytes: &[u8]) -> [[u8; 32]; 126]
     for k in 0..126usize {
         let start = ENTRY_SIZE * k;
         let end = start + ENTRY_SIZE;
-        entries[k] = array_32(&bytes[start..end]);
+        entries[k] = bytes::array_32(&bytes[start..end]);
     }
     entries
 }
@@ -131,18 +132,18 @@ pub fn record_of(bytes: &[u8]) -> ThinPage
     requires { ⌜ length (now bytes) ≡ recordSize ⌝ }
     ensures { λ r. ⌜ r ≡ recordOf (now (bytes .entry)) ⌝ }
 {
-    let state = state_of_byte(bytes[0]);
-    let map = array_32(&bytes[MAP_OFFSET..COUNTS_OFFSET]);
+    let state = state_of_byte(bytes[STATE_OFFSET]);
+    let map = bytes::array_32(&bytes[MAP_OFFSET..USED_OFFSET]);
     let list = places_of(bytes);
     ThinPage {
         state,
-        sequence: bytes::number_at(bytes, 1),
-        version: bytes[5],
-        crc: bytes::number_at(bytes, 6),
+        sequence: bytes::number_at(bytes, SEQUENCE_OFFSET),
+        version: bytes[VERSION_OFFSET],
+        crc: bytes::number_at(bytes, CRC_OFFSET),
         map,
-        used: used_of(bytes[0], bytes[42]),
-        erased: bytes[43],
-        len: bytes[44],
+        used: used_of(bytes[STATE_OFFSET], bytes[USED_OFFSET]),
+        erased: bytes[ERASED_OFFSET],
+        len: bytes[LENGTH_OFFSET],
         list,
     }
 }
@@ -194,53 +195,30 @@ pub fn put_record(page: ThinPage, out: &mut [u8])
     ensures { λ _. ⌜ now (out .exit) ≡ recordBytes page ⌝ }
 {
     let head = head_bytes(page);
-    bytes::put(out, 0, &head);
+    bytes::put(out, STATE_OFFSET, &head);
     let map = page.map;
     bytes::put(out, MAP_OFFSET, &map);
     let counts = [page.used, page.erased, page.len];
-    bytes::put(out, COUNTS_OFFSET, &counts);
+    bytes::put(out, USED_OFFSET, &counts);
     let list = page.list;
     put_places(out, list);
 }
 
 // ---- an answer's bytes
 
-// The eight bytes of a number, lowest first (`u64::to_le_bytes`).
-fn little_endian_8(word: u64) -> [u8; 8]
-    ensures { λ r. ⌜ r ≡ littleEndian 8 word ⌝ }
-{
-    let second = word / 256;
-    let third = second / 256;
-    let fourth = third / 256;
-    let fifth = fourth / 256;
-    let sixth = fifth / 256;
-    let seventh = sixth / 256;
-    let eighth = seventh / 256;
-    [
-        (word % 256) as u8,
-        (second % 256) as u8,
-        (third % 256) as u8,
-        (fourth % 256) as u8,
-        (fifth % 256) as u8,
-        (sixth % 256) as u8,
-        (seventh % 256) as u8,
-        (eighth % 256) as u8,
-    ]
-}
-
-// Lays the four counts out, from byte 41 of an answer on.
+// Lays the four counts out.
 fn put_counts(out: &mut [u8], counts: Statistics)
     requires { ⌜ length (now out) ≡ answerSize ⌝ }
     ensures { λ _. ⌜ now (out .exit) ≡ take 41 (now (out .entry)) ++ statisticsBytes counts ⌝ }
 {
     let empty = bytes::little_endian(counts.empty);
-    bytes::put(out, 41, &empty);
+    bytes::put(out, EMPTY_OFFSET, &empty);
     let written = bytes::little_endian(counts.written);
-    bytes::put(out, 45, &written);
+    bytes::put(out, WRITTEN_OFFSET, &written);
     let erased = bytes::little_endian(counts.erased);
-    bytes::put(out, 49, &erased);
+    bytes::put(out, ERASED_COUNT_OFFSET, &erased);
     let illegal = bytes::little_endian(counts.illegal);
-    bytes::put(out, 53, &illegal);
+    bytes::put(out, ILLEGAL_OFFSET, &illegal);
 }
 
 // Lays an answer out in 57 bytes.
@@ -250,8 +228,8 @@ pub fn put_answer(out: &mut [u8], byte: u8, value: u64, item: [u8; 32], counts: 
 {
     let carried = [byte];
     bytes::put(out, 0, &carried);
-    let eight = little_endian_8(value);
-    bytes::put(out, 1, &eight);
-    bytes::put(out, 9, &item);
+    let eight = bytes::little_endian_8(value);
+    bytes::put(out, NUMBER_OFFSET, &eight);
+    bytes::put(out, ITEM_OFFSET, &item);
     put_counts(out, counts);
 }

@@ -2,7 +2,7 @@
 ghost use mathlib.Core.Path.{_≡_};
 ghost use lib.ListN.{length};
 ghost use Rattle.sector.specs.Answers.{numberOf, carriedByte};
-ghost use Rattle.boundary_encoding.specs.Encoding.{recordSize, answerSize, answerBytes, zeroItem, noCounts};
+ghost use Rattle.boundary_encoding.specs.Encoding.{recordSize, answerSize, answerBytes, noCounts};
 ghost use Rattle.boundary_results.specs.Handing.{recordLeft};
 use page::Outcome;
 use sector::Answer;
@@ -40,24 +40,13 @@ fn no_counts() -> Statistics
     }
 }
 
-// Lays out an answer with a number, and hands back its number in document 01.
-pub fn give_number(buffer: &mut [u8], answer: Answer, value: u64) -> u32
+// Lays out an answer with a number and an item, and hands back its number in document 01.
+pub fn give(buffer: &mut [u8], answer: Answer, value: u64, item: [u8; 32]) -> u32
     requires { ⌜ length (now buffer) ≡ answerSize ⌝ }
     ensures number { λ r. ⌜ r ≡ numberOf answer ⌝ }
-    ensures buffer { λ r. ⌜ now (buffer .exit) ≡ answerBytes (carriedByte answer) value zeroItem noCounts ⌝ }
+    ensures buffer { λ r. ⌜ now (buffer .exit) ≡ answerBytes (carriedByte answer) value item noCounts ⌝ }
 {
-    let none = [0u8; 32];
-    boundary_encoding::put_answer(buffer, carried_byte(answer), value, none, no_counts());
-    answers::number_of(answer) as u32
-}
-
-// Lays out an answer with an item, and hands back its number in document 01.
-pub fn give_item(buffer: &mut [u8], answer: Answer, item: [u8; 32]) -> u32
-    requires { ⌜ length (now buffer) ≡ answerSize ⌝ }
-    ensures number { λ r. ⌜ r ≡ numberOf answer ⌝ }
-    ensures buffer { λ r. ⌜ now (buffer .exit) ≡ answerBytes (carriedByte answer) 0 item noCounts ⌝ }
-{
-    boundary_encoding::put_answer(buffer, carried_byte(answer), 0, item, no_counts());
+    boundary_encoding::put_answer(buffer, carried_byte(answer), value, item, no_counts());
     answers::number_of(answer) as u32
 }
 

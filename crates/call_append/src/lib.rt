@@ -13,6 +13,7 @@ use page::Outcome;
 use page::ThinPage;
 use sector::Answer;
 use sector::ItemType;
+use sector::answers;
 use sector_hash::calculate_hash;
 use sector_item::item_bytes;
 use sector_types::kind_of;
@@ -72,7 +73,7 @@ fn single_refusal(image: &[u8], page: ThinPage, item: Single) -> Answer
     ensures { λ r. ⌜ r ≡ refusal (singleChecks (now (image .entry)) page item) ⌝ }
 {
     let refused = page_write::append_refusal(image, page);
-    if !page_write::is_done(refused) {
+    if !answers::is_done(refused) {
         return refused;
     }
     if is_bad_single(item) {
@@ -124,7 +125,7 @@ pub fn write_item(image: &mut [u8], page: ThinPage, item: Single, stop: usize) -
     ensures image { λ r. ⌜ now (image .exit) ≡ appendSingleImage (now (image .entry)) page item stop ⌝ }
 {
     let refused = single_refusal(image, page, item);
-    if !page_write::is_done(refused) {
+    if !answers::is_done(refused) {
         return Outcome {
             answer: refused,
             page,
@@ -133,16 +134,7 @@ pub fn write_item(image: &mut [u8], page: ThinPage, item: Single, stop: usize) -
     let new = with_single(page, item);
     let map = new.map;
     let total = write_single(image, page, item, map, stop);
-    if stop < total {
-        return Outcome {
-            answer: Answer::Stopped,
-            page,
-        };
-    }
-    Outcome {
-        answer: Answer::Done,
-        page: new,
-    }
+    page_write::ended(page, new, stop, total)
 }
 
 // Appends a namespace entry (`ThinPage::write_namespace`): a single U8 in namespace 0, which is not listed.

@@ -8,7 +8,8 @@ use lib.Dec.{ltb}
 use lib.ListN.{length}
 use Rattle.page.specs.declared.ThinPage.{ThinPage}
 use Rattle.page.specs.Writing.{notActive, overFree}
-use Rattle.page.proofs.Checks.{accepted-tail, accepted-room, accepted-usable}
+use Rattle.sector.proofs.Laws.{accepted-tail}
+use Rattle.page.proofs.Checks.{accepted-room, accepted-usable}
 use Rattle.sector.specs.declared.Answer.the-variants.{BadRequest, ValueTooLong}
 use Rattle.sector.specs.Answers.{accepted}
 use Rattle.sector.specs.Layout.{entriesPerPage}

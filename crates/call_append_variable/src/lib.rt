@@ -16,19 +16,20 @@ use page::Outcome;
 use page::ThinPage;
 use sector::Answer;
 use sector::ENTRIES_PER_PAGE;
+use sector::ENTRY_SIZE;
+use sector::answers;
+use sector::layout;
 use sector_hash::calculate_hash;
 use sector_item::item_bytes;
 use sector_item::sized_data;
 use sector_types::kind_of;
 
-const ITEM_SIZE: usize = 32;
-
 // The entries that data of this length takes, its header among them.
 fn span_for(size: usize) -> usize
     ensures { λ r. ⌜ r ≡ spanFor size ⌝ }
 {
-    let whole = size / ITEM_SIZE;
-    if size % ITEM_SIZE == 0 {
+    let whole = size / ENTRY_SIZE;
+    if size % ENTRY_SIZE == 0 {
         return whole + 1;
     }
     whole + 2
@@ -50,7 +51,7 @@ fn variable_refusal(image: &[u8], page: ThinPage, item: Variable, payload: &[u8]
     ensures { λ r. ⌜ r ≡ refusal (variableChecks (now (image .entry)) page item (now (payload .entry))) ⌝ }
 {
     let refused = page_write::append_refusal(image, page);
-    if !page_write::is_done(refused) {
+    if !answers::is_done(refused) {
         return refused;
     }
     if is_bad_variable(item) {
@@ -99,9 +100,9 @@ fn write_header_and_data(
     ensures total { λ r. ⌜ r ≡ length (units (entryAddress start) (now (header .entry)) ++ units (entryAddress (start + 1)) (now (payload .entry))) ⌝ }
     ensures image { λ r. ⌜ now (image .exit) ≡ run (take budget (units (entryAddress start) (now (header .entry)) ++ units (entryAddress (start + 1)) (now (payload .entry)))) (now (image .entry)) ⌝ }
 {
-    let entry = flash::write_aligned(image, page_write::entry_address(start), header, budget);
+    let entry = flash::write_aligned(image, layout::entry_address(start), header, budget);
     let left = page_write::remaining(budget, entry);
-    let data = flash::write_aligned(image, page_write::entry_address(start + 1), payload, left);
+    let data = flash::write_aligned(image, layout::entry_address(start + 1), payload, left);
     entry + data
 }
 
@@ -150,7 +151,7 @@ pub fn write_variable_sized_item(
     ensures image { λ r. ⌜ now (image .exit) ≡ appendVariableImage (now (image .entry)) page item (now (payload .entry)) stop ⌝ }
 {
     let refused = variable_refusal(image, page, item, payload);
-    if !page_write::is_done(refused) {
+    if !answers::is_done(refused) {
         return Outcome {
             answer: refused,
             page,
@@ -159,14 +160,5 @@ pub fn write_variable_sized_item(
     let new = with_variable(page, item, payload);
     let map = new.map;
     let total = write_variable(image, page, item, payload, map, stop);
-    if stop < total {
-        return Outcome {
-            answer: Answer::Stopped,
-            page,
-        };
-    }
-    Outcome {
-        answer: Answer::Done,
-        page: new,
-    }
+    page_write::ended(page, new, stop, total)
 }

@@ -10,7 +10,7 @@ use lib.ListN.{length, getD, take, drop}
 use borrow.Author.Tests.{eqb-true, eqb-false, ltb-true, ltb-false, not-false}
 use Rattle.flash.specs.Flash.{units}
 use Rattle.flash.proofs.Laws.{neither}
-use Rattle.call_load.proofs.Laws.{accepted-at}
+use Rattle.sector.proofs.Laws.{accepted-at}
 use Rattle.page.specs.declared.ThinPage.{ThinPage}
 use Rattle.page.specs.Record.{nextFree, free, fitToUse, withItem}
 use Rattle.page.specs.Writing.{fullUnits, itemPlan}

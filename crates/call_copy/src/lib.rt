@@ -14,8 +14,9 @@ use page::Outcome;
 use page::ThinPage;
 use sector::Answer;
 use sector::ENTRIES_PER_PAGE;
-
-const SECTOR_SIZE: usize = 4096;
+use sector::SECTOR_SIZE;
+use sector::answers;
+use sector::layout;
 
 // ---- checks
 
@@ -56,13 +57,13 @@ fn copy_refusal(image: &[u8], page: ThinPage, source: &[u8], index: usize) -> An
         return Answer::BadImage;
     }
     let refused = page_write::active_refusal(page);
-    if !page_write::is_done(refused) {
+    if !answers::is_done(refused) {
         return refused;
     }
     if index >= ENTRIES_PER_PAGE {
         return Answer::CorruptedData;
     }
-    let entry = call_load::entry_at(source, index);
+    let entry = layout::entry_at(source, index);
     item_refusal(page, entry, index)
 }
 
@@ -86,29 +87,20 @@ pub fn copy_item_from(
     ensures image { λ r. ⌜ now (image .exit) ≡ copyInImage (now (image .entry)) page (now (source .entry)) index stop ⌝ }
 {
     let refused = copy_refusal(image, page, source, index);
-    if !page_write::is_done(refused) {
+    if !answers::is_done(refused) {
         return Outcome {
             answer: refused,
             page,
         };
     }
-    let entry = call_load::entry_at(source, index);
+    let entry = layout::entry_at(source, index);
     let span = entry[2] as usize;
     let hash = sector_hash::hash_of_item(entry);
     let new = page_write::with_item(page, span, entry[0], hash);
     let map = new.map;
     let start = page_write::get_next_free_entry(page);
-    let first = page_write::entry_address(index);
-    let end = page_write::entry_address(index + span);
+    let first = layout::entry_address(index);
+    let end = layout::entry_address(index + span);
     let total = page_write::write_entries(image, &source[first..end], map, start, span, stop);
-    if stop < total {
-        return Outcome {
-            answer: Answer::Stopped,
-            page,
-        };
-    }
-    Outcome {
-        answer: Answer::Done,
-        page: new,
-    }
+    page_write::ended(page, new, stop, total)
 }

@@ -14,7 +14,6 @@ use lib.Seq.{take-suc, drop-cons, take-all}
 use borrow.Author.Tests.{eq-eqb, ne-eqb, eqb-true, eqb-false, ltb-false, not-false}
 use Rattle.flash.specs.Flash.{every}
 use Rattle.flash.proofs.Laws.{neither}
-use Rattle.call_load.proofs.Laws.{accepted-at}
 use Rattle.page.specs.declared.Listed.{Listed}
 use Rattle.page.specs.declared.ThinPage.{ThinPage}
 use Rattle.page.specs.Record.{noItem, without, padded, fitToUse, withErased}
@@ -25,7 +24,7 @@ use Rattle.sector.specs.declared.EntryMapState.the-variants.{Empty, Written, Er
 use Rattle.sector.specs.Answers.{accepted}
 use Rattle.sector.specs.Layout.{sectorSize, entriesPerPage}
 use Rattle.sector.specs.Map.{stateAt, statesOf, sameState, countIn, markRange, mapUnits}
-use Rattle.sector.proofs.Laws.{length-statesOf, getD-statesOf}
+use Rattle.sector.proofs.Laws.{length-statesOf, getD-statesOf, accepted-at}
 use Rattle.sector.proofs.Marks.{countIn-erased}
 use Rattle.call_erase.specs.Erase.{allWritten, eraseChecks, erasePlan}
 

@@ -1,5 +1,5 @@
 -- Erase (01, 'Erase'): checks in order, plan, new record.
-use mathlib.Core.Bool.{Bool, true, false, _||_, not}
+use mathlib.Core.Bool.{Bool, false, _||_, not}
 use mathlib.Core.List.{List, [], _∷_}
 use Prim.Native.Nat.{ℕ, _+_}
 use lib.Dec.{eqb, ltb}
@@ -11,20 +11,10 @@ use Rattle.page.specs.Record.{withErased}
 use Rattle.page.specs.Writing.{badImage, badRecord, outcome, imageAfter}
 use Rattle.sector.specs.declared.Answer.the-variants.{WrongState, CorruptedData, NotWritten}
 use Rattle.sector.specs.declared.EntryMapState.the-variants.{Written, Erased}
-use Rattle.sector.specs.declared.PageState.{PageState}
-use Rattle.sector.specs.declared.PageState.the-variants.{Uninitialized, Active, Full, Freeing, Corrupt, Invalid}
 use Rattle.sector.specs.Answers.{Check}
+use Rattle.sector.specs.Header.{isInUse}
 use Rattle.sector.specs.Layout.{entriesPerPage}
 use Rattle.sector.specs.Map.{statesOf, sameState, markRange, mapUnits}
-
--- Active, Full or Freeing
-abbrev pub isErasable : PageState → Bool
-isErasable Uninitialized = false
-isErasable Active = true
-isErasable Full = true
-isErasable Freeing = true
-isErasable Corrupt = false
-isErasable Invalid = false
 
 -- all the entries it names are Written in the record
 abbrev pub allWritten : List ℕ → ℕ → ℕ → Bool
@@ -35,7 +25,7 @@ abbrev pub eraseChecks : List ℕ → ThinPage → ℕ → ℕ → List Check
 eraseChecks image page index span =
     badImage image
     ∷ badRecord page
-    ∷ (not (isErasable (page .state)), WrongState)
+    ∷ (not (isInUse (page .state)), WrongState)
     ∷ (eqb span 0 || ltb entriesPerPage (index + span), CorruptedData)
     ∷ (not (allWritten (page .map) index span), NotWritten)
     ∷ []

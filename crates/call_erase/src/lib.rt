@@ -9,7 +9,7 @@ ghost use Rattle.page.specs.Record.{fitToUse, without, padded, withErased};
 ghost use Rattle.sector.specs.declared.Answer.the-variants.{CorruptedData, NotWritten};
 ghost use Rattle.sector.specs.Answers.{refusal};
 ghost use Rattle.sector.specs.Layout.{entriesPerPage};
-ghost use Rattle.call_erase.specs.Erase.{isErasable, allWritten, eraseChecks, erase, eraseImage};
+ghost use Rattle.call_erase.specs.Erase.{allWritten, eraseChecks, erase, eraseImage};
 use page::Listed;
 use page::Outcome;
 use page::ThinPage;
@@ -17,27 +17,14 @@ use page::fit;
 use sector::Answer;
 use sector::ENTRIES_PER_PAGE;
 use sector::EntryMapState;
-use sector::PageState;
-
-const SECTOR_SIZE: usize = 4096;
+use sector::SECTOR_SIZE;
+use sector::answers;
+use sector::states;
 
 // A unit is four bytes: the map has eight.
 const UNITS: usize = 8;
 
 // ---- checks
-
-fn is_erasable(state: PageState) -> bool
-    ensures { λ r. ⌜ r ≡ isErasable state ⌝ }
-{
-    match state {
-        PageState::Uninitialized => false,
-        PageState::Active => true,
-        PageState::Full => true,
-        PageState::Freeing => true,
-        PageState::Corrupt => false,
-        PageState::Invalid => false,
-    }
-}
 
 // Whether all these entries are Written in a map.
 fn all_written(map: [u8; 32], index: usize, span: usize) -> bool
@@ -85,7 +72,7 @@ fn erase_refusal(image: &[u8], page: ThinPage, index: usize, span: usize) -> Ans
         return Answer::BadRecord;
     }
     let state = page.state;
-    if !is_erasable(state) {
+    if !states::is_in_use(state) {
         return Answer::WrongState;
     }
     let map = page.map;
@@ -157,7 +144,7 @@ pub fn erase_item(image: &mut [u8], page: ThinPage, index: usize, span: usize) -
     ensures image { λ r. ⌜ now (image .exit) ≡ eraseImage (now (image .entry)) page index span ⌝ }
 {
     let refused = erase_refusal(image, page, index, span);
-    if !page_write::is_done(refused) {
+    if !answers::is_done(refused) {
         return Outcome {
             answer: refused,
             page,

@@ -1,41 +1,16 @@
 -- Laws of the readings: when a list of checks accepts, what the calls' checks leave known, and an entry's fields.
-use mathlib.Core.Path.{_≡_, refl, sym, ap, _∙_}
-use mathlib.Core.Bool.{Bool, true, false, cond, false≢true}
-use mathlib.Core.List.{List, [], _∷_, _++_}
-use Prim.Native.Nat.{ℕ, zero, suc, _+_, _≤_, _<_}
-use native.Mathlib.Omega.{arith}
-use lib.Dec.{eqb}
-use lib.ListN.{length, take, drop, getD, length-take, length-drop}
-use lib.Seq.{take-take, drop-drop}
+use mathlib.Core.Path.{_≡_, refl, sym}
+use mathlib.Core.Bool.{Bool, true, false, cond}
+use mathlib.Core.List.{List, _++_}
+use Prim.Native.Nat.{ℕ, _+_, _<_}
+use lib.ListN.{length, getD}
 use borrow.Author.Tests.{ltb-true, eqb-true, not-false}
-use Rattle.flash.specs.Flash.{every}
-use Rattle.sector.specs.declared.Answer.{Answer}
 use Rattle.sector.specs.declared.Answer.the-variants.{Done}
-use Rattle.sector.specs.Answers.{Check, numberOf, refusal, accepted}
-use Rattle.sector.specs.Layout.{sectorSize, entriesPerPage, entrySize, entryAddress, entryAt, field}
-use Rattle.sector.proofs.Laws.{refuses, accepted-refusal, accepted-append, refusal-append}
+use Rattle.sector.specs.Answers.{Check, refusal, accepted}
+use Rattle.sector.specs.Layout.{sectorSize, entriesPerPage}
+use Rattle.sector.proofs.Laws.{accepted-append, refusal-append, refusal-accepted, accepted-at}
 use Rattle.call_load.specs.declared.Loaded.{Loaded}
 use Rattle.call_load.specs.Load.{entryChecks, loadChecks, refusedItem, loadedOr}
-
--- ---- checks
-
--- checks accept where the number of the answer that a call has is 0
-pub accepted-number : (checks : List Check) (answer : Answer) (n : ℕ) → every refuses checks ≡ true
-    → answer ≡ refusal checks → n ≡ numberOf answer → accepted checks ≡ eqb n 0
-accepted-number checks answer n h p q =
-    accepted-refusal checks h ∙ ap (λ m. eqb m 0) (ap numberOf (sym p) ∙ sym q)
-
-pub refusal-accepted : (checks : List Check) → accepted checks ≡ true → refusal checks ≡ Done
-refusal-accepted [] h = refl
-refusal-accepted ((true, answer) ∷ checks) h = absurd (false≢true h)
-refusal-accepted ((false, answer) ∷ checks) h = refusal-accepted checks h
-
--- no check of an accepted list refuses
-pub accepted-at : (checks : List Check) (n : ℕ) → accepted checks ≡ true → getD checks n (false, Done) .0 ≡ false
-accepted-at [] n h = refl
-accepted-at ((true, answer) ∷ checks) n h = absurd (false≢true h)
-accepted-at ((false, answer) ∷ checks) zero h = refl
-accepted-at ((false, answer) ∷ checks) (suc n) h = accepted-at checks n h
 
 -- ---- the calls' checks
 
@@ -73,23 +48,3 @@ loadedOr-answer checks item = go (accepted checks) refl
 
 pub loadedOr-item : (checks : List Check) (item : List ℕ) → accepted checks ≡ true → loadedOr checks item .item ≡ item
 loadedOr-item checks item h = rw h
-
--- ---- fields of an entry
-
-pub length-entryAt : (image : List ℕ) (i : ℕ) → length image ≡ sectorSize → i < entriesPerPage
-    → length (entryAt image i) ≡ entrySize
-length-entryAt image i h inside = simp (length-take, length-drop) (omega arith)
-
-field-take : (offset size n : ℕ) (bytes : List ℕ) → offset + size ≤ n
-    → field offset size (take n bytes) ≡ field offset size bytes
-field-take zero size n bytes h = take-take size n bytes (omega arith)
-field-take (suc offset) size zero bytes h = absurd (omega arith)
-field-take (suc offset) size (suc n) [] h = refl
-field-take (suc offset) size (suc n) (byte ∷ bytes) h = field-take offset size n bytes (omega arith)
-
--- a field of an entry, read from the image
-pub field-entryAt : (image : List ℕ) (i offset size : ℕ) → offset + size ≤ entrySize
-    → field offset size (entryAt image i) ≡ field (entryAddress i + offset) size image
-field-entryAt image i offset size h =
-    field-take offset size entrySize (drop (entryAddress i) image) h
-    ∙ ap (take size) (drop-drop offset (entryAddress i) image)

@@ -1,22 +1,20 @@
 // Reading items out of a sector (page.rs): load and raw read. The data behind an item is `payload`'s.
 use sector::Answer;
 use sector::ENTRIES_PER_PAGE;
+use sector::ENTRY_SIZE;
+use sector::ITEMS_OFFSET;
+use sector::SECTOR_SIZE;
 use sector::answers;
 use sector::bytes;
+use sector::layout;
 ghost use mathlib.Core.Path.{_≡_};
-ghost use Prim.Native.Nat.{_+_, _*_, _^_, _<_};
+ghost use Prim.Native.Nat.{_+_, _*_, _<_};
 ghost use lib.ListN.{length};
-ghost use Rattle.sector.specs.Layout.{sectorSize, entriesPerPage, entryAt, sizeOf};
+ghost use Rattle.sector.specs.Layout.{sectorSize, entriesPerPage, entryAt};
 ghost use Rattle.sector.specs.Item.{loads};
 ghost use Rattle.sector.specs.Types.{sanitized};
 ghost use Rattle.sector.specs.Answers.{refusal};
 ghost use Rattle.call_load.specs.Load.{entryChecks, rawEntry, loadItem, refusedItem};
-
-const SECTOR_SIZE: usize = 4096;
-
-const ENTRY_SIZE: usize = 32;
-
-const ITEMS_OFFSET: usize = 64;
 
 // An entry's 32 bytes, all zero where the answer is not Done.
 pub struct Loaded {
@@ -37,19 +35,6 @@ fn entry_refusal(image: &[u8], index: usize) -> Answer
     Answer::Done
 }
 
-// The 32 bytes of an entry, as they lie.
-pub fn entry_at(image: &[u8], index: usize) -> [u8; 32]
-    requires { ⌜ (length (now image) ≡ sectorSize) × (index < entriesPerPage) ⌝ }
-    ensures { λ r. ⌜ r ≡ entryAt (now (image .entry)) index ⌝ }
-{
-    let start = ITEMS_OFFSET + ENTRY_SIZE * index;
-    let mut entry = [0u8; 32];
-    for k in 0..32usize {
-        entry[k] = image[start + k];
-    }
-    entry
-}
-
 // No item, and why.
 fn refused(answer: Answer) -> Loaded
     ensures { λ r. ⌜ r ≡ refusedItem answer ⌝ }
@@ -68,10 +53,10 @@ pub fn read_raw_entry(image: &[u8], index: usize) -> Loaded
     ensures { λ r. ⌜ r ≡ rawEntry (now (image .entry)) index ⌝ }
 {
     let answer = entry_refusal(image, index);
-    if answers::number_of(answer) != 0 {
+    if !answers::is_done(answer) {
         return refused(answer);
     }
-    let item = entry_at(image, index);
+    let item = layout::entry_at(image, index);
     Loaded {
         answer: Answer::Done,
         item,
@@ -103,10 +88,10 @@ pub fn load_item(image: &[u8], index: usize) -> Loaded
     ensures { λ r. ⌜ r ≡ loadItem (now (image .entry)) index ⌝ }
 {
     let answer = entry_refusal(image, index);
-    if answers::number_of(answer) != 0 {
+    if !answers::is_done(answer) {
         return refused(answer);
     }
-    let mut item = entry_at(image, index);
+    let mut item = layout::entry_at(image, index);
     item[1] = sector_types::type_byte(item[1]);
     if !loads_at(image, index, item) {
         return refused(Answer::KeyNotFound);
@@ -115,18 +100,4 @@ pub fn load_item(image: &[u8], index: usize) -> Loaded
         answer: Answer::Done,
         item,
     }
-}
-
-// Two bytes as a number, the low one first.
-fn u16_of(low: u8, high: u8) -> usize
-    ensures { λ r. ⌜ (r ≡ low + 256 * high) × (r < 2 ^ 16) ⌝ }
-{
-    low as usize + 256 * high as usize
-}
-
-// The payload's size, as an item's header entry has it.
-pub fn size_of(entry: [u8; 32]) -> usize
-    ensures { λ r. ⌜ (r ≡ sizeOf entry) × (r < 2 ^ 16) ⌝ }
-{
-    u16_of(entry[24], entry[25])
 }

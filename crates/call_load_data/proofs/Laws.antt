@@ -11,7 +11,7 @@ use Rattle.sector.specs.declared.Answer.the-variants.{Done}
 use Rattle.sector.specs.Answers.{accepted}
 use Rattle.sector.specs.Layout.{sectorSize, entriesPerPage, entrySize, entryAddress, entryAt, spanOf, sizeOf, typeByteOf}
 use Rattle.sector.specs.Types.{sanitized, itemType, typeByte, type-byte}
-use Rattle.call_load.proofs.Laws.{accepted-at}
+use Rattle.sector.proofs.Laws.{accepted-at}
 use Rattle.call_load_data.specs.Payload.{roundedUp, payloadChecks, dataChecks}
 
 -- the payload's checks do not see that a type byte was made one of the thirteen

@@ -8,11 +8,9 @@ ghost use Rattle.sector.specs.Layout.{entriesPerPage};
 ghost use Rattle.call_load_data.specs.Payload.{roundedUp, payloadChecks, dataAnswer, dataOutput};
 use sector::Answer;
 use sector::ENTRIES_PER_PAGE;
+use sector::ENTRY_SIZE;
 use sector::answers;
-
-const ENTRY_SIZE: usize = 32;
-
-const ITEMS_OFFSET: usize = 64;
+use sector::layout;
 
 // The size of the data that was read, 0 where the answer is not Done.
 pub struct DataLoaded {
@@ -43,7 +41,7 @@ fn payload_refusal(entry: [u8; 32], index: usize, room: usize) -> Answer
     if span > ENTRIES_PER_PAGE - index {
         return Answer::CorruptedData;
     }
-    let size = call_load::size_of(entry);
+    let size = layout::size_of(entry);
     if size > ENTRY_SIZE * (span - 1) {
         return Answer::CorruptedData;
     }
@@ -77,19 +75,19 @@ pub fn load_referenced_data_into(image: &[u8], index: usize, output: &mut [u8]) 
 {
     let loaded = call_load::load_item(image, index);
     let answer = loaded.answer;
-    if answers::number_of(answer) != 0 {
+    if !answers::is_done(answer) {
         return DataLoaded { answer, size: 0 };
     }
     let item = loaded.item;
     let refusal = payload_refusal(item, index, output.len());
-    if answers::number_of(refusal) != 0 {
+    if !answers::is_done(refusal) {
         return DataLoaded {
             answer: refusal,
             size: 0,
         };
     }
-    let size = call_load::size_of(item);
-    let start = ITEMS_OFFSET + ENTRY_SIZE * (index + 1);
+    let size = layout::size_of(item);
+    let start = layout::entry_address(index + 1);
     let end = start + rounded_up(size);
     copy_to(&image[start..end], output);
     DataLoaded { answer, size }

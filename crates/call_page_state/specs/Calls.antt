@@ -9,12 +9,11 @@ use Rattle.crc.specs.Crc.{crc32}
 use Rattle.flash.specs.Flash.{Unit4, units, allOnes}
 use Rattle.page.specs.declared.Outcome.{Outcome}
 use Rattle.page.specs.declared.ThinPage.{ThinPage}
-use Rattle.page.specs.Record.{isUninitialized}
 use Rattle.page.specs.Writing.{badImage, badRecord, notActive, outcome, imageAfter, stops}
 use Rattle.sector.specs.declared.Answer.the-variants.{WrongState, CorruptedData}
 use Rattle.sector.specs.declared.PageState.the-variants.{Active, Full}
 use Rattle.sector.specs.Answers.{Check}
-use Rattle.sector.specs.Header.{headerBody, headerBytes, stateBytes}
+use Rattle.sector.specs.Header.{headerBody, headerBytes, stateBytes, isUninitialized}
 use Rattle.sector.specs.Item.{crcStart}
 
 -- ---- initialise

@@ -10,10 +10,10 @@ use page::ThinPage;
 use page::fit;
 use sector::Answer;
 use sector::PageState;
-
-const SECTOR_SIZE: usize = 4096;
-
-const VERSION: u8 = 0xFE;
+use sector::SECTOR_SIZE;
+use sector::VERSION;
+use sector::answers;
+use sector::states;
 
 // Whether a page can be initialised, in document 01's order.
 fn initialize_refusal(image: &[u8], page: ThinPage) -> Answer
@@ -26,7 +26,7 @@ fn initialize_refusal(image: &[u8], page: ThinPage) -> Answer
         return Answer::BadRecord;
     }
     let state = page.state;
-    if !fit::is_uninitialized(state) {
+    if !states::is_uninitialized(state) {
         return Answer::WrongState;
     }
     if !flash::all_ones(image) {
@@ -65,7 +65,7 @@ pub fn initialize(image: &mut [u8], page: ThinPage, sequence: u32, stop: usize) 
     ensures image { λ r. ⌜ now (image .exit) ≡ initialiseImage (now (image .entry)) page sequence stop ⌝ }
 {
     let refused = initialize_refusal(image, page);
-    if !page_write::is_done(refused) {
+    if !answers::is_done(refused) {
         return Outcome {
             answer: refused,
             page,
@@ -73,18 +73,9 @@ pub fn initialize(image: &mut [u8], page: ThinPage, sequence: u32, stop: usize) 
     }
     let header = sector_header::header_bytes(sequence);
     let total = flash::write_aligned(image, 0, &header, stop);
-    if stop < total {
-        return Outcome {
-            answer: Answer::Stopped,
-            page,
-        };
-    }
     let crc = sector_header::header_crc(header);
     let new = initialized(page, sequence, crc);
-    Outcome {
-        answer: Answer::Done,
-        page: new,
-    }
+    page_write::ended(page, new, stop, total)
 }
 
 // The record of a page that takes no more items.
@@ -114,7 +105,7 @@ pub fn mark_as_full(image: &mut [u8], page: ThinPage) -> Outcome
     ensures image { λ r. ⌜ now (image .exit) ≡ markFullImage (now (image .entry)) page ⌝ }
 {
     let refused = page_write::append_refusal(image, page);
-    if !page_write::is_done(refused) {
+    if !answers::is_done(refused) {
         return Outcome {
             answer: refused,
             page,

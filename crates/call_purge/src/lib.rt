@@ -7,8 +7,8 @@ ghost use Rattle.sector.specs.Layout.{sectorSize, entriesPerPage, entrySize, en
 ghost use Rattle.call_purge.specs.Purge.{heldSpan, purge, purgeImage};
 use sector::Answer;
 use sector::ENTRIES_PER_PAGE;
-
-const SECTOR_SIZE: usize = 4096;
+use sector::SECTOR_SIZE;
+use sector::layout;
 
 // A unit is four bytes: an entry has eight.
 const UNITS: usize = 8;
@@ -19,7 +19,7 @@ pub fn zero_entry(image: &mut [u8], index: usize)
     ensures { λ _. ⌜ now (image .exit) ≡ run (units (entryAddress index) (replicate entrySize 0)) (now (image .entry)) ⌝ }
 {
     let zeros = [0u8; 32];
-    flash::write_aligned(image, page_write::entry_address(index), &zeros, UNITS);
+    flash::write_aligned(image, layout::entry_address(index), &zeros, UNITS);
 }
 
 // Programs these entries to zero. One at a time: a buffer of zeros for all of them would be as large as the page.

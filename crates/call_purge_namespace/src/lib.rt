@@ -13,8 +13,8 @@ use page::ThinPage;
 use page::fit;
 use sector::Answer;
 use sector::EntryMapState;
-
-const SECTOR_SIZE: usize = 4096;
+use sector::SECTOR_SIZE;
+use sector::layout;
 
 // What the walk does at an entry: whether the entry is zeroed, and how many behind it go the same way.
 struct Step {
@@ -74,7 +74,7 @@ fn to_zero(image: &[u8], map: [u8; 32], namespace: u8) -> [bool; 126]
         } else {
             step_at(
                 sector_map::state_at(map, i),
-                call_load::entry_at(image, i),
+                layout::entry_at(image, i),
                 namespace,
             )
         };

@@ -11,11 +11,10 @@ use page::Outcome;
 use page::ThinPage;
 use sector::Answer;
 use sector::ENTRIES_PER_PAGE;
+use sector::ENTRY_SIZE;
+use sector::ITEMS_OFFSET;
+use sector::answers;
 use sector::bytes;
-
-const ITEMS_OFFSET: usize = 64;
-
-const ITEM_SIZE: usize = 32;
 
 const NO_CHUNK: u8 = 0xFF;
 
@@ -142,7 +141,7 @@ fn same_entries(first: [u8; 4096], second: [u8; 4096], count: usize) -> bool
     if count > ENTRIES_PER_PAGE {
         return false;
     }
-    let end = ITEMS_OFFSET + ITEM_SIZE * count;
+    let end = ITEMS_OFFSET + ENTRY_SIZE * count;
     bytes::same(&first[ITEMS_OFFSET..end], &second[ITEMS_OFFSET..end])
 }
 
@@ -166,7 +165,7 @@ pub fn found_in(before: Sector, after: Sector, cut: Cut) -> Found
     ensures { λ r. ⌜ r ≡ foundIn before after cut ⌝ }
 {
     let opened = cut.opened;
-    if !page_write::is_done(opened) {
+    if !answers::is_done(opened) {
         return Found::Otherwise;
     }
     let sector = cut.sector;

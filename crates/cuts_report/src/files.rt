@@ -2,8 +2,7 @@
 use crate::show::number;
 use crate::show::text;
 use crate::words::word;
-
-const SECTOR_SIZE: usize = 4096;
+use sector::SECTOR_SIZE;
 
 fn not_opened(path: &[u8], error: i32) {
     text(b"cuts: ");

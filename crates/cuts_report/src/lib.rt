@@ -7,6 +7,7 @@ mod words;
 
 use cuts_append::Sector;
 use cuts_request::Request;
+use sector::answers;
 use words::is_wrong;
 
 // All the cuts of an append, or why it is refused, behind a title.
@@ -42,7 +43,7 @@ fn print_page(image: &[u8], key: &[u8], value: &[u8], asked: Request, sector: [u
     let mut bytes = sector;
     let opened = opening::open_page(&mut bytes);
     let answer = opened.answer;
-    if !page_write::is_done(answer) {
+    if !answers::is_done(answer) {
         words::opening_refused(image, answer);
         return;
     }

@@ -5,6 +5,7 @@ use cuts_append::Sector;
 use cuts_request::Request;
 use libc::STDOUT_FILENO;
 use sector::Answer;
+use sector::answers;
 
 pub(crate) fn text(bytes: &[u8]) {
     io::write_all(STDOUT_FILENO, bytes);
@@ -100,7 +101,7 @@ fn ranges(
 pub(crate) fn cuts(name: &[u8], before: Sector, request: Request, payload: &[u8]) {
     let finished = cuts_append::finish(before, request, payload);
     let answer = finished.answer;
-    if !page_write::is_done(answer) {
+    if !answers::is_done(answer) {
         text(b": the append is refused, ");
         answered(answer);
         text(b"\n");

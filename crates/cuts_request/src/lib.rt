@@ -1,7 +1,6 @@
 // A request in words: the namespace, the type, the key and the value of an item to append.
 ghost use mathlib.Core.Path.{_≡_};
 ghost use Prim.Native.Nat.{_<_};
-ghost use Rattle.sector.specs.Layout.{littleEndian};
 ghost use Rattle.cuts_request.specs.Words.{noNumber, digitOf, digitsOf, isHex, numberIn, isKey, keyBytes, orNamed, typeOf, valueWidth, mostOf, valueOf, valueBytes, refusedFor, parsed};
 use sector_types::kind_of;
 
@@ -236,34 +235,11 @@ pub fn value_of(kind: u8, text: &[u8]) -> Number
     number_of(most, text)
 }
 
-// The eight bytes of a number, lowest first.
-fn eight_bytes(value: u64) -> [u8; 8]
-    ensures { λ r. ⌜ r ≡ littleEndian 8 value ⌝ }
-{
-    let second = value / 256;
-    let third = second / 256;
-    let fourth = third / 256;
-    let fifth = fourth / 256;
-    let sixth = fifth / 256;
-    let seventh = sixth / 256;
-    let eighth = seventh / 256;
-    [
-        (value % 256) as u8,
-        (second % 256) as u8,
-        (third % 256) as u8,
-        (fourth % 256) as u8,
-        (fifth % 256) as u8,
-        (sixth % 256) as u8,
-        (seventh % 256) as u8,
-        (eighth % 256) as u8,
-    ]
-}
-
 // The value's lowest bytes, lowest first, and 0xFF in the rest of the eight, as in the namespace entries of document 01.
 pub fn value_bytes(width: u8, value: u64) -> [u8; 8]
     ensures { λ r. ⌜ r ≡ valueBytes width value ⌝ }
 {
-    let all = eight_bytes(value);
+    let all = sector::bytes::little_endian_8(value);
     let count = wide_index(width);
     if count >= 8 {
         return all;

@@ -11,14 +11,12 @@ use Rattle.flash.specs.Flash.{Unit4, run, allOnes}
 use Rattle.page.specs.declared.Listed.{Listed}
 use Rattle.page.specs.declared.Outcome.{Outcome}
 use Rattle.page.specs.declared.ThinPage.{ThinPage}
-use Rattle.page.specs.Record.{isUninitialized, padded, uninitialized}
+use Rattle.page.specs.Record.{padded, uninitialized}
 use Rattle.page.specs.Writing.{answered}
 use Rattle.sector.specs.declared.Answer.the-variants.{Done, BadImage, CorruptedData}
 use Rattle.sector.specs.declared.EntryMapState.{EntryMapState}
 use Rattle.sector.specs.declared.EntryMapState.the-variants.{Written, Erased}
-use Rattle.sector.specs.declared.PageState.{PageState}
-use Rattle.sector.specs.declared.PageState.the-variants.{Uninitialized, Active, Full, Freeing, Corrupt, Invalid}
-use Rattle.sector.specs.Header.{stateOfWord, headerCrc}
+use Rattle.sector.specs.Header.{stateOfWord, headerCrc, isUninitialized, isInUse}
 use Rattle.sector.specs.Item.{hashOfItem}
 use Rattle.sector.specs.Layout.{sectorSize, entriesPerPage, mapOf, entriesOf, stateWord, sequenceOf, versionOf, storedHeaderCrc, namespaceOf}
 use Rattle.sector.specs.Map.{statesOf, unpack, pack, countIn}
@@ -31,23 +29,20 @@ pub use Rattle.opening.specs.declared.HeaderVerdict.the-variants.{Blank,
 
 -- ---- the header
 
--- Active, Full or Freeing
-abbrev pub isOpenState : PageState → Bool
-isOpenState Uninitialized = false
-isOpenState Active = true
-isOpenState Full = true
-isOpenState Freeing = true
-isOpenState Corrupt = false
-isOpenState Invalid = false
+-- the first rule that applies; the page opens where none does
+abbrev pub firstVerdict : List (Bool × HeaderVerdict) → HeaderVerdict
+firstVerdict [] = Opens
+firstVerdict (rule ∷ rules) = cond (rule .0) (rule .1) (firstVerdict rules)
 
 -- state before version before CRC
 unfoldable pub headerVerdictOf : List ℕ → HeaderVerdict
 headerVerdictOf image =
-    cond (isUninitialized (stateOfWord (stateWord image)) && allOnes image) Blank
-    (cond (not (isOpenState (stateOfWord (stateWord image)))) WrongPageState
-    (cond (not (eqb (versionOf image) 0xFE)) WrongVersion
-    (cond (not (eqb (headerCrc image) (storedHeaderCrc image))) WrongHeaderCrc
-    Opens)))
+    firstVerdict
+    ((isUninitialized (stateOfWord (stateWord image)) && allOnes image, Blank)
+    ∷ (not (isInUse (stateOfWord (stateWord image))), WrongPageState)
+    ∷ (not (eqb (versionOf image) 0xFE), WrongVersion)
+    ∷ (not (eqb (headerCrc image) (storedHeaderCrc image)), WrongHeaderCrc)
+    ∷ [])
 
 -- ---- items
 

@@ -8,6 +8,7 @@ ghost use Rattle.opening.specs.Steps.{listingOf, withListed, listedBy};
 use crate::Listing;
 use opening_reading::Verdict;
 use page::Listed;
+use sector::layout;
 
 // No place in use.
 pub(crate) fn empty() -> Listing
@@ -47,6 +48,6 @@ pub(crate) fn listed_by(listing: Listing, image: &[u8], index: usize, verdict: V
         Verdict::NotAnItem => listing,
         Verdict::RefusedEntry(_) => listing,
         Verdict::RefusedItem(_, _) => listing,
-        Verdict::Kept(_) => with_listed(listing, call_load::entry_at(image, index), index),
+        Verdict::Kept(_) => with_listed(listing, layout::entry_at(image, index), index),
     }
 }

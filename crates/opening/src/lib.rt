@@ -11,13 +11,12 @@ use page::Outcome;
 use page::ThinPage;
 use sector::Answer;
 use sector::PageState;
+use sector::SECTOR_SIZE;
 
 mod header;
 mod kept;
 mod plan;
 mod walk;
-
-const SECTOR_SIZE: usize = 4096;
 
 // What opening makes of a header: an erased page, a page that opens, or the first rule that refused it.
 pub enum HeaderVerdict {

@@ -9,20 +9,7 @@ use crate::Listing;
 use crate::walk;
 use page::ThinPage;
 use sector::bytes;
-
-const MAP_OFFSET: usize = 32;
-
-// The map's 32 bytes.
-fn map_of(image: &[u8]) -> [u8; 32]
-    requires { ⌜ length (now image) ≡ sectorSize ⌝ }
-    ensures { λ r. ⌜ r ≡ mapOf (now (image .entry)) ⌝ }
-{
-    let mut map = [0u8; 32];
-    for k in 0..32usize {
-        map[k] = image[MAP_OFFSET + k];
-    }
-    map
-}
+use sector::layout;
 
 // The record of a header, with the map and the list that opening leaves.
 fn header_record(image: &[u8], map: [u8; 32], listing: Listing) -> ThinPage
@@ -54,7 +41,7 @@ pub(crate) fn changes(image: &[u8]) -> Changes
     requires { ⌜ length (now image) ≡ sectorSize ⌝ }
     ensures { λ r. ⌜ (r .map ≡ mapOf (now (image .entry))) × (r .first ≡ firstMap (now (image .entry))) × (r .page ≡ openedPage (now (image .entry))) ⌝ }
 {
-    let map = map_of(image);
+    let map = layout::map_of(image);
     let walked = walk::walk(image, map);
     let marked = walked.map;
     let opened = opening_marks::shut_before_tail(image, marked);

@@ -11,8 +11,8 @@ ghost use Rattle.opening_reading.specs.Reading.{isEmpty, shutBeforeTail};
 ghost use Rattle.opening_marks.specs.Marks.{shutTo, firstPass, mapUnit, changedUnits};
 use sector::ENTRIES_PER_PAGE;
 use sector::EntryMapState;
-
-const MAP_OFFSET: usize = 32;
+use sector::MAP_OFFSET;
+use sector::layout;
 
 fn is_empty(state: EntryMapState) -> bool
     ensures { λ r. ⌜ r ≡ isEmpty state ⌝ }
@@ -44,7 +44,7 @@ fn is_free(image: &[u8], map: [u8; 32], index: usize) -> bool
     if !is_empty(sector_map::state_at(map, index)) {
         return false;
     }
-    let entry = call_load::entry_at(image, index);
+    let entry = layout::entry_at(image, index);
     flash::all_ones(&entry)
 }
 

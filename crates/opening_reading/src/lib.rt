@@ -8,10 +8,10 @@ ghost use Rattle.sector.specs.Map.{stateAt, statesOf};
 ghost use Rattle.opening_reading.specs.Reading.{covered, isUsable, usable, firstRule, sizeTooBig, payloadCrcWrong, itemVerdict, verdictAt};
 use sector::CRC_START;
 use sector::ENTRIES_PER_PAGE;
+use sector::ENTRY_SIZE;
 use sector::EntryMapState;
 use sector::bytes;
-
-const ENTRY_SIZE: usize = 32;
+use sector::layout;
 
 // The rule of the reading that refused an entry or an item.
 pub enum Reason {
@@ -63,11 +63,11 @@ fn payload_verdict(image: &[u8], map: [u8; 32], index: usize, entry: [u8; 32]) -
     ensures { λ r. ⌜ r ≡ itemVerdict (firstRule ((sizeTooBig entry, Reason.SizeTooBig) ∷ (payloadCrcWrong entry (take (covered entry) (drop (index + 1) (entriesOf (now (image .entry))))), Reason.PayloadCrcWrong) ∷ [])) (usable (covered entry) (drop (index + 1) (statesOf map))) (covered entry) ⌝ }
 {
     let behind = entry[2] as usize - 1;
-    let size = call_load::size_of(entry);
+    let size = layout::size_of(entry);
     if size > ENTRY_SIZE * behind {
         return Verdict::RefusedItem(Reason::SizeTooBig, behind);
     }
-    let start = page_write::entry_address(index + 1);
+    let start = layout::entry_address(index + 1);
     let crc = crc::crc32(CRC_START, &image[start..start + size]);
     if crc != bytes::number_at(&entry, 28) {
         return Verdict::RefusedItem(Reason::PayloadCrcWrong, behind);
@@ -83,7 +83,7 @@ fn written_verdict(image: &[u8], map: [u8; 32], index: usize) -> Verdict
     requires { ⌜ (length (now image) ≡ sectorSize) × (index < entriesPerPage) ⌝ }
     ensures { λ r. ⌜ r ≡ verdictAt EntryMapState.Written (entryAt (now (image .entry)) index) (drop (index + 1) (statesOf map)) (drop (index + 1) (entriesOf (now (image .entry)))) ⌝ }
 {
-    let entry = call_load::entry_at(image, index);
+    let entry = layout::entry_at(image, index);
     if flash::all_ones(&entry) {
         return Verdict::RefusedEntry(Reason::AllOnes);
     }

@@ -1,47 +1,24 @@
--- Laws of checks: when a list of them accepts, what more checks behind it change, and what a writing call then owes.
-use mathlib.Core.Path.{_≡_, refl, sym, ap, _∙_}
-use mathlib.Core.Bool.{Bool, true, false, false≢true}
-use mathlib.Core.List.{List, [], _∷_, _++_}
-use Prim.Native.Nat.{ℕ, _+_, _≤_, _<_}
+-- Laws of a writing call's checks: what accepted ones tell of its image and record, and what the call then owes.
+use mathlib.Core.Path.{_≡_, refl, ap, _∙_}
+use mathlib.Core.Bool.{Bool, true, false, cond}
+use mathlib.Core.List.{List, [], _∷_}
+use Prim.Native.Nat.{ℕ, _+_, _≤_}
 use native.Mathlib.Omega.{arith}
+use lib.Dec.{ltb}
 use lib.ListN.{length, take}
-use borrow.Author.Tests.{eqb-true, ltb-false, lt-ltb, le-ltb, not-false}
-use Rattle.flash.specs.Flash.{Unit4, every, run}
+use borrow.Author.Tests.{eqb-true, ltb-false, not-false}
+use Rattle.flash.specs.Flash.{Unit4, run}
 use Rattle.sector.specs.declared.Answer.{Answer}
 use Rattle.sector.specs.declared.Answer.the-variants.{Done, BadImage, BadRecord, WrongState, PageFull, Stopped}
 use Rattle.sector.specs.Answers.{Check, refusal, accepted}
 use Rattle.sector.specs.Layout.{sectorSize, entriesPerPage}
-use Rattle.sector.proofs.Laws.{isDone, refuses, accepted-refusal, refusal-append}
+use Rattle.sector.proofs.Laws.{accepted-head, accepted-tail}
+use Rattle.page.specs.declared.Outcome.{Outcome}
 use Rattle.page.specs.declared.ThinPage.{ThinPage}
 use Rattle.page.specs.Record.{nextFree, free, fitToUse}
 use Rattle.page.specs.Writing.{badImage, badRecord, overFree, answered, outcome, imageAfter, stops}
 
--- ---- a list of checks accepts where its refusal is Done
-
--- of an answer in hand, and of its test
-pub accepted-done : (checks : List Check) → every refuses checks ≡ true → {answer : Answer} {done : Bool}
-    → answer ≡ refusal checks → done ≡ isDone answer → accepted checks ≡ done
-accepted-done checks h e d = accepted-refusal checks h ∙ sym (d ∙ ap isDone e)
-
--- ---- more checks behind
-
--- a refusal in front is that of all
-pub refusal-refused : (xs ys : List Check) {answer : Answer} → accepted xs ≡ false → answer ≡ refusal xs → answer ≡ refusal (xs ++ ys)
-refusal-refused xs ys refused e = e ∙ sym (refusal-append xs ys ∙ rw refused)
-
--- past checks that accept, the refusal is that of the checks behind
-pub refusal-passed : (xs ys : List Check) {answer : Answer} → accepted xs ≡ true → answer ≡ refusal ys → answer ≡ refusal (xs ++ ys)
-refusal-passed xs ys passed e = e ∙ sym (refusal-append xs ys ∙ rw passed)
-
 -- ---- what accepted checks tell
-
-pub accepted-head : (test : Bool) (answer : Answer) (checks : List Check) → accepted ((test, answer) ∷ checks) ≡ true → test ≡ false
-accepted-head true answer checks h = sym h
-accepted-head false answer checks h = refl
-
-pub accepted-tail : (test : Bool) (answer : Answer) (checks : List Check) → accepted ((test, answer) ∷ checks) ≡ true → accepted checks ≡ true
-accepted-tail true answer checks h = absurd (false≢true h)
-accepted-tail false answer checks h = h
 
 -- of an image's length
 pub accepted-image : (image : List ℕ) (checks : List Check) → accepted (badImage image ∷ checks) ≡ true → length image ≡ sectorSize
@@ -85,17 +62,12 @@ module _ (checks : List Check) (page new : ThinPage) (image : List ℕ) where
       → (answered answer page ≡ outcome checks stopped page new) × (image ≡ imageAfter checks plan image)
   call-refused stopped plan e refused = rw (refused) (ap (λ (answer : Answer). answered answer page) e, refl)
 
-  -- where n is below the total
-  pub call-stopped : (n : ℕ) (plan : List Unit4) {total : ℕ} {after : List ℕ} → accepted checks ≡ true → total ≡ length plan → n < total
-      → after ≡ run (take n plan) image
-      → (answered Stopped page ≡ outcome checks (stops n plan) page new) × (after ≡ imageAfter checks (take n plan) image)
-  call-stopped n plan passed e h run-to = rw (passed, lt-ltb n (length plan) (omega arith)) (refl, run-to)
-
-  -- where all units are done
-  pub call-done : (n : ℕ) (plan : List Unit4) {total : ℕ} {made : ThinPage} {after : List ℕ} → accepted checks ≡ true → total ≡ length plan → total ≤ n
-      → made ≡ new → after ≡ run (take n plan) image
-      → (answered Done made ≡ outcome checks (stops n plan) page new) × (after ≡ imageAfter checks (take n plan) image)
-  call-done n plan passed e h m run-to = rw (passed, le-ltb n (length plan) (omega arith)) (ap (answered Done) m, run-to)
+  -- where no check refuses
+  pub call-ended : (n : ℕ) (plan : List Unit4) {total : ℕ} {made : ThinPage} {after : List ℕ} {result : Outcome} → accepted checks ≡ true
+      → total ≡ length plan → made ≡ new → after ≡ run (take n plan) image
+      → result ≡ cond (ltb n total) (answered Stopped page) (answered Done made)
+      → (result ≡ outcome checks (stops n plan) page new) × (after ≡ imageAfter checks (take n plan) image)
+  call-ended n plan passed e m run-to r = rw passed (r ∙ rw (e, m), run-to)
 
   -- where the call cannot be stopped
   pub call-whole : (plan : List Unit4) {made : ThinPage} {after : List ℕ} → accepted checks ≡ true → made ≡ new → after ≡ run plan image

@@ -1,15 +1,15 @@
 -- The record (01, 'The record'): next free, free, and when it is fit to use, a definition for each clause in 01's order.
 --
 -- In order: entries; the list of hashes; fitness; the Uninitialized record; the record after an item and after an erasure.
-use mathlib.Core.Bool.{Bool, true, false, _&&_, _||_, not, cond}
+use mathlib.Core.Bool.{Bool, _&&_, _||_, not, cond}
 use mathlib.Core.List.{List, [], _∷_, _++_}
 use Prim.Native.Nat.{ℕ, _+_, _-_, _^_}
 use lib.Dec.{leb, ltb, eqb}
 use lib.ListN.{length, take, drop, set, replicate}
 use Rattle.flash.specs.Flash.{every, allOnes}
 use Rattle.sector.specs.declared.EntryMapState.the-variants.{Written, Erased}
-use Rattle.sector.specs.declared.PageState.{PageState}
-use Rattle.sector.specs.declared.PageState.the-variants.{Uninitialized, Active, Full, Freeing, Corrupt, Invalid}
+use Rattle.sector.specs.declared.PageState.the-variants.{Uninitialized, Full}
+use Rattle.sector.specs.Header.{isUninitialized}
 use Rattle.sector.specs.Layout.{entriesPerPage}
 use Rattle.sector.specs.Map.{statesOf, countIn, markRange}
 use Rattle.page.specs.declared.Listed.{Listed}
@@ -71,14 +71,6 @@ listedFit page = every placeFits (inUse page)
 -- list places behind its length zero
 abbrev pub behindZero : ThinPage → Bool
 behindZero page = every placeZero (drop (page .len) (page .list))
-
-abbrev pub isUninitialized : PageState → Bool
-isUninitialized Uninitialized = true
-isUninitialized Active = false
-isUninitialized Full = false
-isUninitialized Freeing = false
-isUninitialized Corrupt = false
-isUninitialized Invalid = false
 
 -- counts, sequence, version and header CRC 0, list empty, map all 0xFF
 abbrev pub isBlank : ThinPage → Bool

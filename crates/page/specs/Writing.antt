@@ -2,7 +2,7 @@
 --
 -- In order: the checks that calls share; what a call hands back and what it leaves in the image; the plan of an item.
 -- 1 to 10 change nothing; 11 leaves the first n units programmed and hands back the incoming record.
-use mathlib.Core.Bool.{Bool, true, false, not, cond}
+use mathlib.Core.Bool.{Bool, not, cond}
 use mathlib.Core.List.{List, [], _++_}
 use Prim.Native.Nat.{ℕ, _+_}
 use lib.Dec.{eqb, ltb}
@@ -11,10 +11,9 @@ use Rattle.flash.specs.Flash.{Unit4, units, run}
 use Rattle.sector.specs.declared.Answer.{Answer}
 use Rattle.sector.specs.declared.Answer.the-variants.{Done, BadImage, BadRecord, WrongState, PageFull, Stopped}
 use Rattle.sector.specs.declared.EntryMapState.the-variants.{Written}
-use Rattle.sector.specs.declared.PageState.{PageState}
-use Rattle.sector.specs.declared.PageState.the-variants.{Uninitialized, Active, Full, Freeing, Corrupt, Invalid}
+use Rattle.sector.specs.declared.PageState.the-variants.{Full}
 use Rattle.sector.specs.Answers.{Check, refusal, accepted}
-use Rattle.sector.specs.Header.{stateBytes}
+use Rattle.sector.specs.Header.{stateBytes, isActive}
 use Rattle.sector.specs.Layout.{sectorSize, entriesPerPage}
 use Rattle.sector.specs.Map.{markRange, mapUnits}
 use Rattle.page.specs.declared.Outcome.{Outcome}
@@ -30,14 +29,6 @@ badImage image = (not (eqb (length image) sectorSize), BadImage)
 -- record not fit
 abbrev pub badRecord : ThinPage → Check
 badRecord page = (not (fitToUse page), BadRecord)
-
-abbrev pub isActive : PageState → Bool
-isActive Uninitialized = false
-isActive Active = true
-isActive Full = false
-isActive Freeing = false
-isActive Corrupt = false
-isActive Invalid = false
 
 -- append, copy target, mark full: not Active
 abbrev pub notActive : ThinPage → Check

@@ -3,11 +3,11 @@ ghost use mathlib.Core.Path.{_≡_};
 ghost use Prim.Native.Nat.{_≤_};
 ghost use lib.ListN.{take, drop};
 ghost use Rattle.flash.specs.Flash.{every, allOnes};
-ghost use Rattle.page.specs.Record.{placeFits, placeZero, isUninitialized, isBlank, blankFits, fitToUse};
+ghost use Rattle.page.specs.Record.{placeFits, placeZero, isBlank, blankFits, fitToUse};
 use crate::Listed;
 use crate::ThinPage;
 use sector::ENTRIES_PER_PAGE;
-use sector::PageState;
+use sector::states;
 
 // The place names an entry, and its hash has 24 bits.
 fn place_fits(place: Listed) -> bool
@@ -56,19 +56,6 @@ fn behind_zero(list: [Listed; 126], len: usize) -> bool
     true
 }
 
-pub fn is_uninitialized(state: PageState) -> bool
-    ensures { λ r. ⌜ r ≡ isUninitialized state ⌝ }
-{
-    match state {
-        PageState::Uninitialized => true,
-        PageState::Active => false,
-        PageState::Full => false,
-        PageState::Freeing => false,
-        PageState::Corrupt => false,
-        PageState::Invalid => false,
-    }
-}
-
 fn map_is_blank(map: [u8; 32]) -> bool
     ensures { λ r. ⌜ r ≡ allOnes map ⌝ }
 {
@@ -106,7 +93,7 @@ fn blank_fits(page: ThinPage) -> bool
     ensures { λ r. ⌜ r ≡ blankFits page ⌝ }
 {
     let state = page.state;
-    if !is_uninitialized(state) {
+    if !states::is_uninitialized(state) {
         return true;
     }
     is_blank(page)

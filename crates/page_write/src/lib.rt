@@ -1,56 +1,34 @@
-// What the writing calls share: the checks in front, an item's entries and marks under a budget of units, the record behind.
+// What the writing calls share: the checks before anything is written, an item's entries and marks under a budget of units,
+// the new record, and what a call hands back.
 ghost use mathlib.Core.Path.{_≡_};
 ghost use mathlib.Core.Bool.{true, cond};
 ghost use mathlib.Core.List.{[], _∷_, _++_};
 ghost use Prim.Native.Nat.{_+_, _-_, _*_, _<_, _≤_};
-ghost use lib.Dec.{eqb};
+ghost use lib.Dec.{eqb, ltb};
 ghost use lib.ListN.{length, take, set};
 ghost use Rattle.flash.specs.Flash.{units, run};
-ghost use Rattle.sector.specs.Answers.{numberOf, refusal};
+ghost use Rattle.sector.specs.Answers.{refusal};
 ghost use Rattle.sector.specs.Header.{stateBytes};
 ghost use Rattle.sector.specs.Layout.{entryAddress};
 ghost use Rattle.sector.specs.Map.{mapUnits};
+ghost use Rattle.sector.specs.declared.Answer.the-variants.{Done, Stopped};
 ghost use Rattle.sector.specs.declared.PageState.the-variants.{Full};
 ghost use Rattle.page.specs.Record.{nextFree, free, fitToUse, withItem};
-ghost use Rattle.page.specs.Writing.{badImage, badRecord, isActive, notActive, fullUnits};
+ghost use Rattle.page.specs.Writing.{badImage, badRecord, notActive, fullUnits, answered};
 use page::Listed;
+use page::Outcome;
 use page::ThinPage;
 use page::fit;
 use sector::Answer;
 use sector::ENTRIES_PER_PAGE;
 use sector::EntryMapState;
+use sector::MAP_OFFSET;
 use sector::PageState;
-use sector::answers;
-
-const SECTOR_SIZE: usize = 4096;
-
-const MAP_OFFSET: usize = 32;
-
-const ITEMS_OFFSET: usize = 64;
-
-const ITEM_SIZE: usize = 32;
+use sector::SECTOR_SIZE;
+use sector::layout;
+use sector::states;
 
 // ---- checks
-
-// Whether no check refused.
-pub fn is_done(answer: Answer) -> bool
-    ensures { λ r. ⌜ r ≡ eqb (numberOf answer) 0 ⌝ }
-{
-    answers::number_of(answer) == 0
-}
-
-fn is_active(state: PageState) -> bool
-    ensures { λ r. ⌜ r ≡ isActive state ⌝ }
-{
-    match state {
-        PageState::Uninitialized => false,
-        PageState::Active => true,
-        PageState::Full => false,
-        PageState::Freeing => false,
-        PageState::Corrupt => false,
-        PageState::Invalid => false,
-    }
-}
 
 // Whether a record can take an item: BadRecord, then WrongState where it is not Active.
 pub fn active_refusal(page: ThinPage) -> Answer
@@ -60,7 +38,7 @@ pub fn active_refusal(page: ThinPage) -> Answer
         return Answer::BadRecord;
     }
     let state = page.state;
-    if !is_active(state) {
+    if !states::is_active(state) {
         return Answer::WrongState;
     }
     Answer::Done
@@ -83,14 +61,6 @@ pub fn remaining(budget: usize, units: usize) -> usize
     ensures { λ r. ⌜ r ≡ budget - units ⌝ }
 {
     if budget < units { 0 } else { budget - units }
-}
-
-// An entry's first byte.
-pub fn entry_address(index: usize) -> usize
-    requires { ⌜ index ≤ 126 ⌝ }
-    ensures { λ r. ⌜ r ≡ entryAddress index ⌝ }
-{
-    ITEMS_OFFSET + ITEM_SIZE * index
 }
 
 // Programs the state word Full, and returns its units.
@@ -150,7 +120,7 @@ pub fn write_entries(
     ensures total { λ r. ⌜ r ≡ length (units (entryAddress start) (now (bytes .entry)) ++ (mapUnits start span map ++ fullUnits (start + span))) ⌝ }
     ensures image { λ r. ⌜ now (image .exit) ≡ run (take budget (units (entryAddress start) (now (bytes .entry)) ++ (mapUnits start span map ++ fullUnits (start + span)))) (now (image .entry)) ⌝ }
 {
-    let entries = flash::write_aligned(image, entry_address(start), bytes, budget);
+    let entries = flash::write_aligned(image, layout::entry_address(start), bytes, budget);
     let sealed = seal(image, map, start, span, remaining(budget, entries));
     entries + sealed
 }
@@ -229,5 +199,24 @@ pub fn with_item(page: ThinPage, span: usize, namespace: u8, hash: u32) -> ThinP
         erased: page.erased,
         len,
         list,
+    }
+}
+
+// ---- the end of a call
+
+// What a call hands back once its checks have accepted: Stopped with the incoming record where it was told to stop
+// before its last unit, else Done with the new one.
+pub fn ended(page: ThinPage, new: ThinPage, stop: usize, total: usize) -> Outcome
+    ensures { λ r. ⌜ r ≡ cond (ltb stop total) (answered Stopped page) (answered Done new) ⌝ }
+{
+    if stop < total {
+        return Outcome {
+            answer: Answer::Stopped,
+            page,
+        };
+    }
+    Outcome {
+        answer: Answer::Done,
+        page: new,
     }
 }

@@ -1,7 +1,7 @@
--- Laws of the sector's definitions, in the order of specs/: Layout, Answers, Map, Item; behind Layout, bytes laid over others, repeated and copied.
+-- Laws of the sector's definitions, in the order of specs/: Layout, Answers, Map, Item; after Layout, bytes laid over others, repeated and copied.
 -- Not here: what a run of marks does to each state (Marks).
 use mathlib.Core.Path.{_≡_, refl, sym, ap, _∙_}
-use mathlib.Core.Bool.{Bool, true, false, _&&_, not, cond, and-false, and-eq-true-iff}
+use mathlib.Core.Bool.{Bool, true, false, _&&_, not, cond, and-false, and-eq-true-iff, false≢true}
 use mathlib.Core.List.{List, [], _∷_, _++_, append-nil}
 use Prim.Native.Nat.{ℕ, zero, suc, _+_, _-_, _*_, _/_, _%_, _^_, _<_, _≤_}
 use native.Mathlib.Nat.{zero-add, le-of-suc-le-suc, not-suc-le-zero, div-one, div-lt-iff-lt-mul, pow-suc, pow-succ', sub-zero}
@@ -10,13 +10,14 @@ use native.Mathlib.Omega.{arith}
 use lib.ListN.{length, getD, set, take, drop, replicate, length-append, length-take, length-drop, length-set, drop-of-length-le}
 use lib.Pow.{pow-add}
 use lib.Dec.{eqb}
-use lib.Seq.{drop-cons, drop-length, drop-drop, take-at, getD-take, paste-suc}
+use lib.Seq.{drop-cons, drop-length, drop-drop, take-take, take-at, getD-take, paste-suc}
 use borrow.Author.Tests.{eq-eqb, ne-eqb, not-true}
 use Rattle.flash.specs.Flash.{every}
 use Rattle.sector.specs.declared.Answer.{Answer}
+use Rattle.sector.specs.declared.Answer.the-variants.{Done}
 use Rattle.sector.specs.declared.EntryMapState.{EntryMapState}
 use Rattle.sector.specs.declared.EntryMapState.the-variants.{Empty, Written, Erased, Illegal}
-use Rattle.sector.specs.Layout.{entriesPerPage, entrySize, itemsOffset, number, littleEndian, field, sameBytes, entryAt, chunks, entriesOf}
+use Rattle.sector.specs.Layout.{sectorSize, entriesPerPage, entrySize, itemsOffset, entryAddress, number, littleEndian, field, sameBytes, entryAt, chunks, entriesOf}
 use Rattle.sector.specs.Answers.{Check, numberOf, refusal, accepted}
 use Rattle.sector.specs.Map.{bitsOf, stateAt, unpack, statesOf, countIn, statistics, mark, markRange}
 use Rattle.sector.specs.Item.{itemBytes, sizedData}
@@ -85,12 +86,36 @@ pub getD-entriesOf : (image : List ℕ) (i : ℕ) → i < entriesPerPage → get
 getD-entriesOf image i h =
     getD-chunks entriesPerPage i (drop itemsOffset image) h ∙ ap (take entrySize) (drop-drop (entrySize * i) itemsOffset image)
 
+pub length-entryAt : (image : List ℕ) (i : ℕ) → length image ≡ sectorSize → i < entriesPerPage
+    → length (entryAt image i) ≡ entrySize
+length-entryAt image i h inside = simp (length-take, length-drop) (omega arith)
+
+field-take : (offset size n : ℕ) (bytes : List ℕ) → offset + size ≤ n
+    → field offset size (take n bytes) ≡ field offset size bytes
+field-take zero size n bytes h = take-take size n bytes (omega arith)
+field-take (suc offset) size zero bytes h = absurd (omega arith)
+field-take (suc offset) size (suc n) [] h = refl
+field-take (suc offset) size (suc n) (byte ∷ bytes) h = field-take offset size n bytes (omega arith)
+
+-- a field of an entry, read from the image
+pub field-entryAt : (image : List ℕ) (i offset size : ℕ) → offset + size ≤ entrySize
+    → field offset size (entryAt image i) ≡ field (entryAddress i + offset) size image
+field-entryAt image i offset size h =
+    field-take offset size entrySize (drop (entryAddress i) image) h
+    ∙ ap (take size) (drop-drop offset (entryAddress i) image)
+
 -- ---- bytes laid over others, as `bytes::put` leaves them; bytes repeated; bytes copied one at a time
 
 abbrev pub over : List ℕ → ℕ → List ℕ → List ℕ
 over out offset bytes = take offset out ++ (bytes ++ drop (offset + length bytes) out)
 
--- two runs of bytes, one behind the other, fill what they are laid over
+-- as many bytes as there are take all their places
+pub over-whole : (out bytes : List ℕ) → length bytes ≡ length out → over out 0 bytes ≡ bytes
+over-whole out bytes h =
+    let all : length out ≤ 0 + length bytes = omega (arith, h) in
+    rw (drop-of-length-le out all, append-nil bytes)
+
+-- two runs of bytes, one after the other, fill what they are laid over
 pub over-both : (out first second : List ℕ) (n : ℕ) → length first ≡ n → length out ≡ n + length second
     → over (over out 0 first) n second ≡ first ++ second
 over-both out first second n e h =
@@ -139,6 +164,39 @@ pub refusal-append : (xs ys : List Check) → refusal (xs ++ ys) ≡ cond (accep
 refusal-append [] ys = refl
 refusal-append ((true, answer) ∷ xs) ys = refl
 refusal-append ((false, answer) ∷ xs) ys = refusal-append xs ys
+
+-- of an answer in hand, and of its test
+pub accepted-done : (checks : List Check) → every refuses checks ≡ true → {answer : Answer} {done : Bool}
+    → answer ≡ refusal checks → done ≡ isDone answer → accepted checks ≡ done
+accepted-done checks h e d = accepted-refusal checks h ∙ sym (d ∙ ap isDone e)
+
+-- a refusal in front is that of all
+pub refusal-refused : (xs ys : List Check) {answer : Answer} → accepted xs ≡ false → answer ≡ refusal xs → answer ≡ refusal (xs ++ ys)
+refusal-refused xs ys refused e = e ∙ sym (refusal-append xs ys ∙ rw refused)
+
+-- past checks that accept, the refusal is that of the checks after
+pub refusal-passed : (xs ys : List Check) {answer : Answer} → accepted xs ≡ true → answer ≡ refusal ys → answer ≡ refusal (xs ++ ys)
+refusal-passed xs ys passed e = e ∙ sym (refusal-append xs ys ∙ rw passed)
+
+pub accepted-head : (test : Bool) (answer : Answer) (checks : List Check) → accepted ((test, answer) ∷ checks) ≡ true → test ≡ false
+accepted-head true answer checks h = sym h
+accepted-head false answer checks h = refl
+
+pub accepted-tail : (test : Bool) (answer : Answer) (checks : List Check) → accepted ((test, answer) ∷ checks) ≡ true → accepted checks ≡ true
+accepted-tail true answer checks h = absurd (false≢true h)
+accepted-tail false answer checks h = h
+
+pub refusal-accepted : (checks : List Check) → accepted checks ≡ true → refusal checks ≡ Done
+refusal-accepted [] h = refl
+refusal-accepted ((true, answer) ∷ checks) h = absurd (false≢true h)
+refusal-accepted ((false, answer) ∷ checks) h = refusal-accepted checks h
+
+-- no check of an accepted list refuses
+pub accepted-at : (checks : List Check) (n : ℕ) → accepted checks ≡ true → getD checks n (false, Done) .0 ≡ false
+accepted-at [] n h = refl
+accepted-at ((true, answer) ∷ checks) n h = absurd (false≢true h)
+accepted-at ((false, answer) ∷ checks) zero h = refl
+accepted-at ((false, answer) ∷ checks) (suc n) h = accepted-at checks n h
 
 -- ---- states
 

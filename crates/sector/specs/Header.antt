@@ -1,6 +1,6 @@
 -- The page header (01, 'The sector'): states and their words, its CRC, and the bytes of a new one.
 use mathlib.Core.Path.{_≡_, refl}
-use mathlib.Core.Bool.{cond}
+use mathlib.Core.Bool.{Bool, true, false, cond}
 use mathlib.Core.List.{List, [], _∷_, _++_}
 use Prim.Native.Nat.{ℕ}
 use lib.Dec.{eqb}
@@ -37,6 +37,31 @@ state-word Full = refl
 state-word Freeing = refl
 state-word Corrupt = refl
 state-word Invalid = refl
+
+abbrev pub isUninitialized : PageState → Bool
+isUninitialized Uninitialized = true
+isUninitialized Active = false
+isUninitialized Full = false
+isUninitialized Freeing = false
+isUninitialized Corrupt = false
+isUninitialized Invalid = false
+
+abbrev pub isActive : PageState → Bool
+isActive Uninitialized = false
+isActive Active = true
+isActive Full = false
+isActive Freeing = false
+isActive Corrupt = false
+isActive Invalid = false
+
+-- Active, Full or Freeing: such a page opens, and erase takes it
+abbrev pub isInUse : PageState → Bool
+isInUse Uninitialized = false
+isInUse Active = true
+isInUse Full = true
+isInUse Freeing = true
+isInUse Corrupt = false
+isInUse Invalid = false
 
 -- over bytes 4..28
 unfoldable pub headerCrc : List ℕ → ℕ

@@ -1,5 +1,6 @@
 // Answers by their numbers.
 ghost use mathlib.Core.Path.{_≡_};
+ghost use lib.Dec.{eqb};
 ghost use Rattle.sector.specs.Answers.{numberOf};
 use crate::Answer;
 
@@ -21,4 +22,11 @@ pub fn number_of(answer: Answer) -> u8
         Answer::NotWritten => 10,
         Answer::Stopped => 11,
     }
+}
+
+// Whether no check refused.
+pub fn is_done(answer: Answer) -> bool
+    ensures { λ r. ⌜ r ≡ eqb (numberOf answer) 0 ⌝ }
+{
+    number_of(answer) == 0
 }

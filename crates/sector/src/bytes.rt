@@ -20,6 +20,29 @@ pub fn little_endian(word: u32) -> [u8; 4]
     ]
 }
 
+// The eight bytes of a number, lowest first (`u64::to_le_bytes`).
+pub fn little_endian_8(word: u64) -> [u8; 8]
+    ensures { λ r. ⌜ r ≡ littleEndian 8 word ⌝ }
+{
+    let second = word / 256;
+    let third = second / 256;
+    let fourth = third / 256;
+    let fifth = fourth / 256;
+    let sixth = fifth / 256;
+    let seventh = sixth / 256;
+    let eighth = seventh / 256;
+    [
+        (word % 256) as u8,
+        (second % 256) as u8,
+        (third % 256) as u8,
+        (fourth % 256) as u8,
+        (fifth % 256) as u8,
+        (sixth % 256) as u8,
+        (seventh % 256) as u8,
+        (eighth % 256) as u8,
+    ]
+}
+
 fn number(first: u8, second: u8, third: u8, fourth: u8) -> u32
     ensures { λ r. ⌜ r ≡ number (first ∷ second ∷ third ∷ fourth ∷ []) ⌝ }
 {
@@ -47,6 +70,36 @@ pub fn put(out: &mut [u8], offset: usize, bytes: &[u8])
     for k in 0..bytes.len() {
         out[offset + k] = bytes[k];
     }
+}
+
+// Eight bytes as an array.
+pub fn array_8(bytes: &[u8]) -> [u8; 8]
+    requires { ⌜ length (now bytes) ≡ 8 ⌝ }
+    ensures { λ r. ⌜ r ≡ now (bytes .entry) ⌝ }
+{
+    let mut out = [0u8; 8];
+    put(&mut out, 0, bytes);
+    out
+}
+
+// Sixteen bytes as an array.
+pub fn array_16(bytes: &[u8]) -> [u8; 16]
+    requires { ⌜ length (now bytes) ≡ 16 ⌝ }
+    ensures { λ r. ⌜ r ≡ now (bytes .entry) ⌝ }
+{
+    let mut out = [0u8; 16];
+    put(&mut out, 0, bytes);
+    out
+}
+
+// 32 bytes as an array: an entry, a map, a header.
+pub fn array_32(bytes: &[u8]) -> [u8; 32]
+    requires { ⌜ length (now bytes) ≡ 32 ⌝ }
+    ensures { λ r. ⌜ r ≡ now (bytes .entry) ⌝ }
+{
+    let mut out = [0u8; 32];
+    put(&mut out, 0, bytes);
+    out
 }
 
 // Whether two lists of bytes are the same.

@@ -1,12 +1,28 @@
-// The sector's layout (raw.rs): its types, what a call answers, and bytes at offsets.
+// The sector's layout (raw.rs): its sizes and offsets, its types, what a call answers, and bytes at offsets.
 //
 // The definitions of all of it are in specs/. The functions of the header, of the map, of the item types and of items are
-// the crates `page_header`, `map`, `types`, `item` and `hash`.
+// the crates `sector_header`, `sector_map`, `sector_types`, `sector_item` and `sector_hash`.
 
 pub mod answers;
 pub mod bytes;
+pub mod layout;
+pub mod states;
+
+pub const SECTOR_SIZE: usize = 4096;
 
 pub const ENTRIES_PER_PAGE: usize = 126;
+
+// An item's header is an entry of this size, and so is a page's header.
+pub const ENTRY_SIZE: usize = 32;
+
+// The map's first byte.
+pub const MAP_OFFSET: usize = 32;
+
+// The first byte of entry 0.
+pub const ITEMS_OFFSET: usize = 64;
+
+// The version byte of a page that this port initialises.
+pub const VERSION: u8 = 0xFE;
 
 // The value that every CRC of a page starts from.
 pub const CRC_START: u32 = 0xFFFFFFFF;

@@ -21,11 +21,7 @@ pub fn calculate_hash(namespace: u8, key: [u8; 16], chunk: u8) -> u32
 pub fn key_of(entry: [u8; 32]) -> [u8; 16]
     ensures { λ r. ⌜ r ≡ keyOf entry ⌝ }
 {
-    let mut key = [0u8; 16];
-    for k in 0..16usize {
-        key[k] = entry[8 + k];
-    }
-    key
+    bytes::array_16(&entry[8..24])
 }
 
 // The hash of the item whose header is an entry (`Item::calculate_hash`).

@@ -1,5 +1,7 @@
 // The page header (raw.rs `PageHeader`): its state word, its CRC, and the bytes of a new one.
 ghost use mathlib.Core.Path.{_≡_};
+ghost use Prim.Native.Nat.{_≤_};
+ghost use lib.ListN.{length};
 ghost use Rattle.sector.specs.Header.{headerCrc, stateOfWord, headerBytes};
 use sector::CRC_START;
 use sector::PAGE_STATE_ACTIVE;
@@ -10,12 +12,20 @@ use sector::PAGE_STATE_UNINITIALIZED;
 use sector::PageState;
 use sector::bytes;
 
-// The CRC over bytes 4..28 of a header (`PageHeader::calculate_crc32`): neither the state word, which changes
+// The CRC over bytes 4..28 of the header that these bytes begin with: neither the state word, which changes
 // as the page fills, nor the CRC's own place.
+pub fn crc_of(bytes: &[u8]) -> u32
+    requires { ⌜ 28 ≤ length (now bytes) ⌝ }
+    ensures { λ r. ⌜ r ≡ headerCrc (now (bytes .entry)) ⌝ }
+{
+    crc::crc32(CRC_START, &bytes[4..28])
+}
+
+// The CRC that a header should carry (`PageHeader::calculate_crc32`).
 pub fn header_crc(header: [u8; 32]) -> u32
     ensures { λ r. ⌜ r ≡ headerCrc header ⌝ }
 {
-    crc::crc32(CRC_START, &header[4..28])
+    crc_of(&header)
 }
 
 // The page state that a header's word stands for (`PageState::from`): any other word is Corrupt.

@@ -13,7 +13,8 @@ use sector::EntryMapState;
 use sector::StateAnswer;
 use sector::Statistics;
 
-fn bits_of(state: EntryMapState) -> u8
+// The two bits of a state.
+pub fn bits_of(state: EntryMapState) -> u8
     ensures { λ r. ⌜ r ≡ bitsOf state ⌝ }
 {
     match state {

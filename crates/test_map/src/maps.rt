@@ -1,15 +1,5 @@
 // The entry map: the state of an entry at each value of its byte, and statistics.
 ghost use Prim.Native.Nat.{_<_, _≤_};
-use sector::EntryMapState;
-
-fn bits_of(state: EntryMapState) -> u8 {
-    match state {
-        EntryMapState::Empty => 0b11,
-        EntryMapState::Written => 0b10,
-        EntryMapState::Erased => 0b00,
-        EntryMapState::Illegal => 0b01,
-    }
-}
 
 // 1 where an entry has these bits, in a map that is all 0xFF but for the entry's byte.
 fn one_if_bits(index: usize, byte: u8, bits: u8) -> u64
@@ -21,7 +11,7 @@ fn one_if_bits(index: usize, byte: u8, bits: u8) -> u64
     let given = sector_map::get_entry_state(bytes, index);
     let answer = given.answer;
     let state = given.state;
-    if sector::answers::number_of(answer) == 0 && bits_of(state) == bits {
+    if sector::answers::number_of(answer) == 0 && sector_map::bits_of(state) == bits {
         return 1;
     }
     0
@@ -56,7 +46,7 @@ fn print_state(byte: u8, at: usize) {
     let answer = given.answer;
     let number = sector::answers::number_of(answer);
     let state = given.state;
-    let bits = bits_of(state);
+    let bits = sector_map::bits_of(state);
     test_print::line(
         b"state, map of $, entry #: answer #, bits #\n",
         [byte as u64, at as u64, number as u64, bits as u64, 0, 0, 0],

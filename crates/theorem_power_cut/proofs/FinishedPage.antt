@@ -16,14 +16,14 @@ use Rattle.flash.specs.Flash.{every, allOnes}
 use Rattle.flash.proofs.Laws.{Bytes, bytes-append, bytes-ones, replicate-all-ones}
 use Rattle.page.specs.declared.Listed.{Listed}
 use Rattle.page.specs.declared.ThinPage.{ThinPage}
-use Rattle.page.specs.Record.{noItem, placeZero, isUninitialized, isBlank, fitToUse, uninitialized}
+use Rattle.page.specs.Record.{noItem, placeZero, isBlank, fitToUse, uninitialized}
 use Rattle.page.specs.Writing.{answered, outcome, stops}
 use Rattle.page.proofs.Checks.{accepted-usable}
 use Rattle.page.proofs.Laws.{fit-clauses}
 use Rattle.sector.specs.declared.Answer.the-variants.{Done, CorruptedData}
 use Rattle.sector.specs.declared.PageState.{PageState}
 use Rattle.sector.specs.declared.PageState.the-variants.{Uninitialized, Active, Full, Freeing, Corrupt, Invalid}
-use Rattle.sector.specs.Header.{stateOfWord, headerCrc, headerBody, headerBytes}
+use Rattle.sector.specs.Header.{stateOfWord, headerCrc, headerBody, headerBytes, isUninitialized}
 use Rattle.sector.specs.Item.{crcStart}
 use Rattle.sector.specs.Layout.{chunks, sequenceOf, storedHeaderCrc}
 use Rattle.sector.specs.Map.{countIn}

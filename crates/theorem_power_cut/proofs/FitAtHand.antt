@@ -16,7 +16,7 @@ use Rattle.page.specs.declared.ThinPage.{ThinPage}
 use Rattle.page.specs.Record.{noItem, placeFits, uninitialized, fitToUse}
 use Rattle.page.proofs.Laws.{fit-of}
 use Rattle.sector.specs.declared.EntryMapState.the-variants.{Empty, Written}
-use Rattle.sector.specs.Header.{stateOfWord}
+use Rattle.sector.specs.Header.{stateOfWord, isInUse}
 use Rattle.sector.specs.Item.{hashOfItem}
 use Rattle.sector.specs.Layout.{stateWord, namespaceOf, keyOf, chunkOf, chunks}
 use Rattle.sector.specs.Map.{statesOf, countIn}
@@ -25,7 +25,7 @@ use Rattle.opening_reading.specs.declared.Verdict.{Verdict}
 use Rattle.opening_reading.specs.declared.Verdict.the-variants.{NotAnItem, RefusedEntry, RefusedItem, Kept}
 use Rattle.opening_reading.specs.Reading.{verdictAt, stepsOver, Item, item, withKept, keptFrom}
 use Rattle.opening_reading.proofs.Verdicts.{States, Entries}
-use Rattle.opening.specs.Opening.{isOpenState, headerOf, listedItems}
+use Rattle.opening.specs.Opening.{headerOf, listedItems}
 use Rattle.theorem_writing.proofs.FitRecords.{known-state, known-fits, zero-places, hash-short}
 use Rattle.theorem_reopening.proofs.OpenedFront.{count-empties}
 use Rattle.theorem_reopening.proofs.KeptItem.{Indices, indices-nil, indices-cons, indices-keptFrom}
@@ -117,7 +117,7 @@ held-fit {items = items} h =
       written-fits = omega (arith, written p);
       listed-fit = rw (take-append-seam places blanks) (places-fit p);
       behind-zero = rw (drop-append-seam places blanks) (zero-places (126 - length places));
-      blank-fits = known-fits at-hand (known-state isOpenState refl (stateOfWord (stateWord (p .header))) (opens .state));
+      blank-fits = known-fits at-hand (known-state isInUse refl (stateOfWord (stateWord (p .header))) (opens .state));
     }))
 
 -- ---- every history

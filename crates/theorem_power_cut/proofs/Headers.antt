@@ -13,13 +13,12 @@ use borrow.Author.Tests.{eqb-true}
 use Rattle.crc.specs.Crc.{crc32}
 use Rattle.flash.specs.Flash.{units, run, program, allOnes}
 use Rattle.flash.proofs.Laws.{Bytes, bytes-nil, bytes-cons}
-use Rattle.page.specs.Record.{isUninitialized}
 use Rattle.page.specs.Writing.{fullUnits}
 use Rattle.sector.specs.declared.PageState.the-variants.{Uninitialized, Active, Full, Freeing, Corrupt, Invalid}
-use Rattle.sector.specs.Header.{stateOfWord, headerCrc, stateBytes}
+use Rattle.sector.specs.Header.{stateOfWord, headerCrc, stateBytes, isUninitialized, isInUse}
 use Rattle.sector.specs.Item.{crcStart}
 use Rattle.sector.specs.Layout.{number, stateWord, versionOf, storedHeaderCrc}
-use Rattle.opening.specs.Opening.{isOpenState, headerVerdictOf}
+use Rattle.opening.specs.Opening.{headerVerdictOf}
 use Rattle.opening.specs.declared.HeaderVerdict.the-variants.{Blank, Opens, WrongPageState, WrongVersion, WrongHeaderCrc}
 use Rattle.theorem_writing.proofs.FitRecords.{known-state}
 use Rattle.theorem_power_cut.proofs.AtHand.{field-front}
@@ -28,7 +27,7 @@ use Rattle.theorem_power_cut.proofs.AtHand.{field-front}
 
 -- state, version and CRC of a header
 pub record HeaderOpens (header : List ℕ) : Type 0 where
-  pub state : isOpenState (stateOfWord (stateWord header)) ≡ true
+  pub state : isInUse (stateOfWord (stateWord header)) ≡ true
   pub version : eqb (versionOf header) 0xFE ≡ true
   pub crc : eqb (headerCrc header) (storedHeaderCrc header) ≡ true
 
@@ -44,12 +43,12 @@ by-verdict false true true true e = (refl, refl, refl)
 pub opens-facts : (image : List ℕ) → headerVerdictOf image ≡ Opens → HeaderOpens image
 unfolding headerVerdictOf
 opens-facts image e =
-    let facts = by-verdict (isUninitialized (stateOfWord (stateWord image)) && allOnes image) (isOpenState (stateOfWord (stateWord image))) (eqb (versionOf image) 0xFE) (eqb (headerCrc image) (storedHeaderCrc image)) e in
+    let facts = by-verdict (isUninitialized (stateOfWord (stateWord image)) && allOnes image) (isInUse (stateOfWord (stateWord image))) (eqb (versionOf image) 0xFE) (eqb (headerCrc image) (storedHeaderCrc image)) e in
     record { state = facts .0; version = facts .1; crc = facts .2 }
 
 pub opens-of : (image : List ℕ) → HeaderOpens image → headerVerdictOf image ≡ Opens
 unfolding headerVerdictOf
-opens-of image o = rw (known-state isOpenState refl (stateOfWord (stateWord image)) (o .state), o .state, o .version, o .crc)
+opens-of image o = rw (known-state isInUse refl (stateOfWord (stateWord image)) (o .state), o .state, o .version, o .crc)
 
 -- the header alone decides
 module _ (header rest : List ℕ) (size : length header ≡ 32) where

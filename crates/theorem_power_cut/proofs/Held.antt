@@ -13,13 +13,13 @@ use borrow.Author.Tests.{eq-eqb}
 use Rattle.flash.specs.Flash.{run, allOnes}
 use Rattle.flash.proofs.Laws.{Bytes, replicate-all-ones}
 use Rattle.page.specs.declared.ThinPage.{ThinPage}
-use Rattle.page.specs.Record.{isUninitialized, uninitialized}
+use Rattle.page.specs.Record.{uninitialized}
 use Rattle.sector.specs.declared.Answer.the-variants.{Done}
-use Rattle.sector.specs.Header.{stateOfWord, headerCrc}
+use Rattle.sector.specs.Header.{stateOfWord, headerCrc, isUninitialized, isInUse}
 use Rattle.sector.specs.Layout.{stateWord, versionOf, storedHeaderCrc, mapOf, entriesOf}
 use Rattle.sector.proofs.Marks.{image-parts, mapOf-parts}
 use Rattle.opening_reading.specs.Reading.{Item}
-use Rattle.opening.specs.Opening.{isOpenState, headerVerdictOf, keptItems, openedMap, openingPlan, openedPage, answerFor, opening, openingImage}
+use Rattle.opening.specs.Opening.{headerVerdictOf, keptItems, openedMap, openingPlan, openedPage, answerFor, opening, openingImage}
 use Rattle.opening.specs.declared.HeaderVerdict.{HeaderVerdict}
 use Rattle.opening.specs.declared.HeaderVerdict.the-variants.{Blank, Opens, WrongPageState, WrongVersion, WrongHeaderCrc}
 use Rattle.theorem_reopening.proofs.Cuts.{keptFrom-empties}
@@ -101,7 +101,7 @@ blank-image image size e = replicate-all-ones image e ∙ ap (λ (n : ℕ). repl
 blank-verdict : (image : List ℕ) → headerVerdictOf image ≡ Blank → allOnes image ≡ true
 unfolding headerVerdictOf
 blank-verdict image e =
-    by-tests (isUninitialized (stateOfWord (stateWord image))) (allOnes image) refl (isOpenState (stateOfWord (stateWord image))) (eqb (versionOf image) 0xFE) (eqb (headerCrc image) (storedHeaderCrc image)) e
+    by-tests (isUninitialized (stateOfWord (stateWord image))) (allOnes image) refl (isInUse (stateOfWord (stateWord image))) (eqb (versionOf image) 0xFE) (eqb (headerCrc image) (storedHeaderCrc image)) e
   where
     by-tests : (none ones : Bool) → allOnes image ≡ ones → (state version crc : Bool)
         → cond (none && ones) Blank (cond (not state) WrongPageState (cond (not version) WrongVersion (cond (not crc) WrongHeaderCrc Opens))) ≡ Blank

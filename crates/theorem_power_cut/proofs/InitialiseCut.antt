@@ -16,12 +16,13 @@ use Rattle.crc.specs.Crc.{crc32}
 use Rattle.flash.specs.Flash.{Unit4, units, run, program, allOnes}
 use Rattle.flash.proofs.Laws.{Bytes, bytes-append, bytes-ones, bytes-take, length-units-whole, program-erased, run-take-units}
 use Rattle.page.specs.declared.ThinPage.{ThinPage}
-use Rattle.page.specs.Record.{isUninitialized, fitToUse, uninitialized}
+use Rattle.page.specs.Record.{fitToUse, uninitialized}
 use Rattle.page.specs.Writing.{answered, imageAfter}
-use Rattle.page.proofs.Checks.{accepted-usable, accepted-head}
+use Rattle.sector.proofs.Laws.{accepted-head}
+use Rattle.page.proofs.Checks.{accepted-usable}
 use Rattle.sector.specs.declared.Answer.the-variants.{Done, CorruptedData}
 use Rattle.sector.specs.Answers.{accepted}
-use Rattle.sector.specs.Header.{stateOfWord, headerCrc, headerBody, headerBytes}
+use Rattle.sector.specs.Header.{stateOfWord, headerCrc, headerBody, headerBytes, isUninitialized}
 use Rattle.sector.specs.Item.{crcStart}
 use Rattle.sector.specs.Layout.{littleEndian}
 use Rattle.sector.specs.Map.{countIn}

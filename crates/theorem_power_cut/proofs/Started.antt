@@ -14,15 +14,15 @@ use borrow.Author.Tests.{ltb-false, not-false}
 use Rattle.flash.specs.Flash.{Unit4, run, every}
 use Rattle.page.specs.declared.ThinPage.{ThinPage}
 use Rattle.page.specs.Record.{nextFree, free, withItem}
-use Rattle.page.specs.Writing.{badImage, badRecord, notActive, isActive, overFree, itemPlan, stops, outcome, imageAfter}
-use Rattle.page.proofs.Checks.{Usable, accepted-usable, accepted-head, accepted-tail}
+use Rattle.page.specs.Writing.{badImage, badRecord, notActive, overFree, itemPlan, stops, outcome, imageAfter}
+use Rattle.page.proofs.Checks.{Usable, accepted-usable}
 use Rattle.page.proofs.Laws.{fit-clauses}
 use Rattle.sector.specs.declared.Answer.the-variants.{Done, BadImage, BadRequest, ValueTooLong, PageFull, CorruptedData, KeyNotFound}
 use Rattle.sector.specs.declared.EntryMapState.the-variants.{Written, Erased}
 use Rattle.sector.specs.declared.PageState.{PageState}
 use Rattle.sector.specs.declared.PageState.the-variants.{Uninitialized, Active, Full, Freeing, Corrupt, Invalid}
 use Rattle.sector.specs.Answers.{Check, accepted}
-use Rattle.sector.specs.Header.{stateOfWord}
+use Rattle.sector.specs.Header.{stateOfWord, isActive}
 use Rattle.sector.specs.Item.{hashOf, hashOfItem, itemBytes, sizedData, loads}
 use Rattle.sector.specs.Layout.{stateWord, entriesOf, entryAt, namespaceOf, spanOf}
 use Rattle.sector.specs.Map.{countIn}
@@ -40,7 +40,7 @@ use Rattle.theorem_reopening.proofs.OpenedFront.{Opened, count-opened}
 use Rattle.theorem_writing.specs.Promises.{outcomeOf, imageOf, entryUnits, single}
 use Rattle.theorem_power_cut.specs.History.{SingleRequest, VariableRequest, KeptIn, AppendOrCopy, a-single, a-variable, a-copy, entriesOfWrite, payloadEntries, callOf, putRequest}
 use Rattle.theorem_power_cut.specs.PowerCut.{Begins}
-use Rattle.sector.proofs.Laws.{length-chunks}
+use Rattle.sector.proofs.Laws.{length-chunks, accepted-head, accepted-tail}
 use Rattle.theorem_power_cut.proofs.Standing.{Standing}
 use Rattle.theorem_power_cut.proofs.Begun.{Lays}
 use Rattle.theorem_power_cut.proofs.Laid.{lays-single, lays-variable, place, copied-span, entry-is, lays-copy}

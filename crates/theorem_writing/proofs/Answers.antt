@@ -15,12 +15,11 @@ use Rattle.flash.specs.Flash.{Unit4, every}
 use Rattle.flash.proofs.Laws.{neither}
 use Rattle.page.specs.declared.ThinPage.{ThinPage}
 use Rattle.page.specs.Writing.{badImage, badRecord, notActive, outcome, imageAfter, stops}
-use Rattle.page.proofs.Checks.{accepted-head}
 use Rattle.sector.specs.declared.Answer.the-variants.{Done, KeyNotFound, CorruptedData, Stopped}
 use Rattle.sector.specs.Answers.{Check, refusal, accepted}
 use Rattle.sector.specs.Item.{loads}
 use Rattle.sector.specs.Layout.{entryAt, spanOf}
-use Rattle.sector.proofs.Laws.{accepted-append}
+use Rattle.sector.proofs.Laws.{accepted-append, accepted-head}
 use Rattle.call_page_state.specs.Calls.{initialise, initialiseImage, markFull, markFullImage}
 use Rattle.call_append.specs.Append.{appendSingle, appendSingleImage, appendVariable, appendVariableImage}
 use Rattle.call_copy.specs.Copy.{copyIn, copyInImage}

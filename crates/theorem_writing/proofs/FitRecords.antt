@@ -16,9 +16,10 @@ use Rattle.flash.proofs.Laws.{Bytes, bytes-nil, bytes-cons, every-append, every
 use Rattle.page.specs.declared.Listed.{Listed}
 use Rattle.page.specs.declared.Outcome.{Outcome}
 use Rattle.page.specs.declared.ThinPage.{ThinPage}
-use Rattle.page.specs.Record.{nextFree, noItem, placeFits, placeZero, without, inUse, isUninitialized, blankFits, fitToUse, withItem, withErased}
-use Rattle.page.specs.Writing.{badImage, badRecord, isActive, overFree, stops}
-use Rattle.page.proofs.Checks.{accepted-head, accepted-tail, accepted-room, accepted-usable}
+use Rattle.sector.specs.Header.{isUninitialized, isActive, isInUse}
+use Rattle.page.specs.Record.{nextFree, noItem, placeFits, placeZero, without, inUse, blankFits, fitToUse, withItem, withErased}
+use Rattle.page.specs.Writing.{badImage, badRecord, overFree, stops}
+use Rattle.page.proofs.Checks.{accepted-room, accepted-usable}
 use Rattle.page.proofs.Laws.{Fit, fit-clauses, fit-of}
 use Rattle.sector.specs.declared.Answer.the-variants.{BadImage, BadRecord, CorruptedData, NotWritten, ValueTooLong}
 use Rattle.sector.specs.declared.EntryMapState.the-variants.{Written, Erased}
@@ -28,12 +29,12 @@ use Rattle.sector.specs.Answers.{Check, accepted}
 use Rattle.sector.specs.Item.{hashOf}
 use Rattle.sector.specs.Layout.{entryAt, namespaceOf, spanOf, keyOf, chunkOf}
 use Rattle.sector.specs.Map.{statesOf, countIn, markRange}
-use Rattle.sector.proofs.Laws.{length-statesOf}
+use Rattle.sector.proofs.Laws.{length-statesOf, accepted-head, accepted-tail}
 use Rattle.sector.proofs.Marks.{statesOf-markRange, countIn-marked, countIn-erased}
 use Rattle.call_page_state.specs.Calls.{initialiseChecks, initialised, markedFull}
 use Rattle.call_append.specs.Append.{singleChecks, spanFor, variableChecks}
 use Rattle.call_copy.specs.Copy.{copyChecks}
-use Rattle.call_erase.specs.Erase.{isErasable, allWritten, eraseChecks}
+use Rattle.call_erase.specs.Erase.{allWritten, eraseChecks}
 use Rattle.theorem_writing.specs.Promises.{single, variable, copied, Call, initialising, markingFull, putting, erasing, purging, checksOf, planOf, newOf, earlierChecks, AsInCode, DoneHandsBackFit}
 use Rattle.theorem_writing.proofs.Answers.{checks-refuse, accepted-both, copied-span, done-only, told}
 
@@ -236,12 +237,12 @@ new-fit (putting (copied source i)) image page code h =
     item-fit page span (namespaceOf entry) (hashOf (namespaceOf entry) (keyOf entry) (chunkOf entry)) code (fit-clauses page (u .fit))
     (not-false (isActive (page .state)) (u .state)) one (accepted-room page span one (parts .1)) (hash-short (namespaceOf entry) (keyOf entry) (chunkOf entry))
 new-fit (erasing index span) image page code h =
-    let u = accepted-usable image page (not (isErasable (page .state))) (drop 3 (eraseChecks image page index span)) h in
+    let u = accepted-usable image page (not (isInUse (page .state))) (drop 3 (eraseChecks image page index span)) h in
     let wrong = eqb span 0 || ltb 126 (index + span) in
     let missing = not (allWritten (page .map) index span) in
     let range = accepted-head wrong CorruptedData ((missing, NotWritten) ∷ []) (u .rest) in
     let marks = accepted-head missing NotWritten [] (accepted-tail wrong CorruptedData ((missing, NotWritten) ∷ []) (u .rest)) in
-    erased-fit page index span code (fit-clauses page (u .fit)) (known-state isErasable refl (page .state) (not-false (isErasable (page .state)) (u .state)))
+    erased-fit page index span code (fit-clauses page (u .fit)) (known-state isInUse refl (page .state) (not-false (isInUse (page .state)) (u .state)))
     (ltb-false 126 (index + span) (neither (eqb span 0) (ltb 126 (index + span)) range .1)) (not-false (allWritten (page .map) index span) marks)
 new-fit (purging namespace) image page code h =
     not-false (fitToUse page) (accepted-head (not (fitToUse page)) BadRecord [] (accepted-tail (badImage image .0) BadImage (badRecord page ∷ []) h))

@@ -5,7 +5,7 @@ use mathlib.Core.List.{[], _∷_}
 use borrow.Author.Needs.{needs}
 use borrow.Author.Tests.{lt-ltb, le-ltb, not-true, not-false}
 use Rattle.page.specs.Writing.{overFree}
-use Rattle.page.proofs.Checks.{accepted-done, refusal-refused, refusal-passed}
+use Rattle.sector.proofs.Laws.{accepted-done, refusal-refused, refusal-passed}
 use Rattle.sector.specs.Answers.{accepted}
 use Rattle.call_append.specs.Append.{singleRequest}
 use Rattle.call_append.proofs.Laws.{frontChecks}

@@ -7,7 +7,8 @@ use borrow.Author.Tests.{not-true, not-false}
 use Rattle.page.specs.declared.ThinPage.{ThinPage}
 use Rattle.page.specs.Record.{withItem}
 use Rattle.page.specs.Writing.{stops}
-use Rattle.page.proofs.Checks.{accepted-done, call-refused, call-stopped, call-done}
+use Rattle.sector.proofs.Laws.{accepted-done}
+use Rattle.page.proofs.Checks.{call-refused, call-ended}
 use Rattle.sector.specs.Answers.{accepted}
 use Rattle.call_append.specs.Append.{singleChecks, singlePlan, withSingle, appendSingle, appendSingleImage}
 use Rattle.call_append.proofs.Laws.{single-room}
@@ -55,21 +56,11 @@ returns-2 : tie.Need-returns-2
 unfolding appendSingle appendSingleImage
 returns-2 c =
     let written = c .before .before .before in
-    let else = written .before .before .before .before in
-    let z = else .before .before .before .before .before .args in
-    call-stopped (singleChecks (z .image .now) (z .page) (z .item)) (z .page) (withSingle (z .page) (z .item)) (z .image .now)
-    (z .stop) (singlePlan (z .page) (z .item)) (passed else)
-    (written .write-single .ensures .0) (c .if2 .taken) (written .write-single .ensures .1)
-
-returns-3 : tie.Need-returns-3
-unfolding appendSingle appendSingleImage
-returns-3 c =
-    let written = c .before .before .before in
     let new = written .before .before .before in
     let z = new .before .before .before .before .before .before .args in
-    call-done (singleChecks (z .image .now) (z .page) (z .item)) (z .page) (withSingle (z .page) (z .item)) (z .image .now)
+    call-ended (singleChecks (z .image .now) (z .page) (z .item)) (z .page) (withSingle (z .page) (z .item)) (z .image .now)
     (z .stop) (singlePlan (z .page) (z .item)) (passed (new .before))
-    (written .write-single .ensures .0) (c .if2 .left) (new .with-single .ensures) (written .write-single .ensures .1)
+    (written .write-single .ensures .0) (new .with-single .ensures) (written .write-single .ensures .1) (c .ended .ensures)
 
 pub write-item-spec : {M : Type 1} → statement M
 write-item-spec =
@@ -81,7 +72,6 @@ write-item-spec =
     returns
     with-single-requires
     write-single-requires
+    (λ c κs. search needs)
     (λ c. search needs)
-    returns-2
-    (λ c. search needs)
-    returns-3)
+    returns-2)

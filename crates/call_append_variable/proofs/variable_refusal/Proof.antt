@@ -9,7 +9,7 @@ use borrow.Author.Needs.{needs}
 use borrow.Author.Tests.{lt-ltb, le-ltb, not-true, not-false}
 use Rattle.page.specs.declared.ThinPage.{ThinPage}
 use Rattle.page.specs.Writing.{overFree}
-use Rattle.page.proofs.Checks.{accepted-done, refusal-refused, refusal-passed}
+use Rattle.sector.proofs.Laws.{accepted-done, refusal-refused, refusal-passed}
 use Rattle.sector.specs.declared.Answer.the-variants.{ValueTooLong}
 use Rattle.sector.specs.Answers.{Check, accepted}
 use Rattle.sector.specs.Layout.{entriesPerPage}

@@ -7,7 +7,8 @@ use borrow.Author.Tests.{not-true, not-false}
 use Rattle.page.specs.declared.ThinPage.{ThinPage}
 use Rattle.page.specs.Record.{withItem}
 use Rattle.page.specs.Writing.{stops}
-use Rattle.page.proofs.Checks.{accepted-done, call-refused, call-stopped, call-done}
+use Rattle.sector.proofs.Laws.{accepted-done}
+use Rattle.page.proofs.Checks.{call-refused, call-ended}
 use Rattle.sector.specs.Answers.{accepted}
 use Rattle.call_append.specs.Append.{variableChecks, variablePlan, withVariable, appendVariable, appendVariableImage}
 use Rattle.call_append_variable.proofs.Laws.{variable-room}
@@ -55,21 +56,11 @@ returns-2 : tie.Need-returns-2
 unfolding appendVariable appendVariableImage
 returns-2 c =
     let written = c .before .before .before in
-    let else = written .before .before .before .before in
-    let z = else .before .before .before .before .before .before .args in
-    call-stopped (variableChecks (z .image .now) (z .page) (z .item) (z .payload .now)) (z .page) (withVariable (z .page) (z .item) (z .payload .now)) (z .image .now)
-    (z .stop) (variablePlan (z .page) (z .item) (z .payload .now)) (passed else)
-    (written .write-variable .ensures .0) (c .if2 .taken) (written .write-variable .ensures .1)
-
-returns-3 : tie.Need-returns-3
-unfolding appendVariable appendVariableImage
-returns-3 c =
-    let written = c .before .before .before in
     let new = written .before .before .before in
     let z = new .before .before .before .before .before .before .before .args in
-    call-done (variableChecks (z .image .now) (z .page) (z .item) (z .payload .now)) (z .page) (withVariable (z .page) (z .item) (z .payload .now)) (z .image .now)
+    call-ended (variableChecks (z .image .now) (z .page) (z .item) (z .payload .now)) (z .page) (withVariable (z .page) (z .item) (z .payload .now)) (z .image .now)
     (z .stop) (variablePlan (z .page) (z .item) (z .payload .now)) (passed (new .before))
-    (written .write-variable .ensures .0) (c .if2 .left) (new .with-variable .ensures) (written .write-variable .ensures .1)
+    (written .write-variable .ensures .0) (new .with-variable .ensures) (written .write-variable .ensures .1) (c .ended .ensures)
 
 pub write-variable-sized-item-spec : {M : Type 1} → statement M
 write-variable-sized-item-spec =
@@ -81,7 +72,6 @@ write-variable-sized-item-spec =
     returns
     with-variable-requires
     write-variable-requires
+    (λ c κs. search needs)
     (λ c. search needs)
-    returns-2
-    (λ c. search needs)
-    returns-3)
+    returns-2)

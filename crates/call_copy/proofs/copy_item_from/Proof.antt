@@ -5,10 +5,11 @@ use mathlib.Core.List.{List, _++_}
 use Prim.Native.Nat.{ℕ, _+_, _-_, _≤_}
 use native.Mathlib.Omega.{arith}
 use borrow.Author.Needs.{needs}
-use borrow.Author.Tests.{lt-ltb, le-ltb, not-true, not-false}
+use borrow.Author.Tests.{not-true, not-false}
 use lib.ListN.{length, take, drop, length-take}
 use Rattle.flash.specs.Flash.{Unit4, units, run}
-use Rattle.page.proofs.Checks.{accepted-done}
+use Rattle.sector.proofs.Laws.{accepted-done}
+use Rattle.page.proofs.Checks.{call-ended}
 use Rattle.page.specs.declared.ThinPage.{ThinPage}
 use Rattle.page.specs.Record.{nextFree}
 use Rattle.page.specs.Writing.{fullUnits}
@@ -149,15 +150,9 @@ returns-2 : tie.Need-returns-2
 unfolding copyIn copyInImage
 returns-2 c =
     let done = c .before .before .before in
-    let taken = accepts (read done .before) in
-    (rw (taken, ← total done, lt-ltb _ _ (c .if2 .taken)), rw taken (programmed done))
-
-returns-3 : tie.Need-returns-3
-unfolding copyIn copyInImage
-returns-3 c =
-    let done = c .before .before .before in
-    let taken = accepts (read done .before) in
-    (rw (taken, ← total done, le-ltb _ _ (c .if2 .left), copied done), rw taken (programmed done))
+    let at = passed done in
+    call-ended (copyChecks (image at) (page at) (source at) (index at)) (page at) (withCopy (page at) (source at) (index at)) (image at)
+    (start at .args .stop) (plan done) (accepts (read done .before)) (total done) (copied done) (programmed done) (c .ended .ensures)
 
 pub copy-item-from-spec : {M : Type 1} → statement M
 copy-item-from-spec =
@@ -181,7 +176,6 @@ copy-item-from-spec =
     (λ c. search needs)
     part-write-entries-end
     write-entries-requires
+    (λ c κs. search needs)
     (λ c. search needs)
-    returns-2
-    (λ c. search needs)
-    returns-3)
+    returns-2)

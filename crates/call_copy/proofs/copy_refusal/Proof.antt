@@ -5,10 +5,9 @@ use mathlib.Core.List.{List, [], _∷_}
 use borrow.Author.Needs.{needs}
 use borrow.Author.Tests.{eq-eqb, ne-eqb, lt-ltb, le-ltb, not-true, not-false}
 use lib.ListN.{drop}
-use Rattle.page.proofs.Checks.{accepted-done}
 use Rattle.page.specs.Writing.{badRecord, notActive}
 use Rattle.sector.specs.Answers.{Check, refusal, accepted}
-use Rattle.sector.proofs.Laws.{refusal-append}
+use Rattle.sector.proofs.Laws.{refusal-append, accepted-done}
 use Rattle.call_copy.specs.Copy.{copyChecks}
 use Rattle.call_copy.proofs.copy_refusal.Statement.{statement}
 use Rattle.call_copy.proofs.copy_refusal.Tie as tie

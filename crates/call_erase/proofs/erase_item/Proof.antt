@@ -6,7 +6,8 @@ use Prim.Native.Nat.{ℕ}
 use borrow.Author.Needs.{needs}
 use borrow.Author.Tests.{not-true, not-false}
 use Rattle.flash.specs.Flash.{Unit4, run}
-use Rattle.page.proofs.Checks.{accepted-done, call-whole}
+use Rattle.sector.proofs.Laws.{accepted-done}
+use Rattle.page.proofs.Checks.{call-whole}
 use Rattle.page.specs.declared.ThinPage.{ThinPage}
 use Rattle.sector.specs.Answers.{Check, accepted}
 use Rattle.call_erase.specs.Erase.{eraseChecks, erasePlan, erase, eraseImage}

@@ -25,7 +25,7 @@ returns-3 c =
     rw (
       eq-eqb _ _ (called .before .before .before .if1 .left),
       fit (called .before),
-      sym (called .is-erasable .ensures) ∙ not-true (called .is-erasable .result) (c .if3 .taken),
+      sym (called .is-in-use .ensures) ∙ not-true (called .is-in-use .result) (c .if3 .taken),
     )
 
 returns-4 : tie.Need-returns-4
@@ -34,7 +34,7 @@ returns-4 c =
     rw (
       eq-eqb _ _ (called .before .before .before .if1 .left),
       fit (called .before),
-      sym (called .is-erasable .ensures) ∙ not-false (called .is-erasable .result) (c .before .before .if3 .left),
+      sym (called .is-in-use .ensures) ∙ not-false (called .is-in-use .result) (c .before .before .if3 .left),
     )
     (c .range-refusal .ensures)
 

@@ -3,19 +3,19 @@ use mathlib.Core.Path.{_≡_, refl, sym, _∙_}
 use mathlib.Core.Bool.{true}
 use mathlib.Core.List.{List}
 use Prim.Native.Nat.{ℕ}
-use lib.Dec.{eqb}
 use lib.ListN.{set}
 use borrow.Author.Needs.{needs}
-use borrow.Author.Tests.{eq-eqb, ne-eqb, not-true, not-false}
+use borrow.Author.Tests.{not-true, not-false}
 use Rattle.sector.specs.Answers.{accepted}
 use Rattle.sector.specs.Layout.{entryAt}
 use Rattle.sector.specs.Types.{sanitized}
+use Rattle.sector.proofs.Laws.{accepted-done}
 use Rattle.call_load.specs.Load.{entryChecks, loadItem}
-use Rattle.call_load.proofs.Laws.{accepted-number, entry-fits, loadedOr-refused, loadedOr-accepted}
+use Rattle.call_load.proofs.Laws.{entry-fits, loadedOr-refused, loadedOr-accepted}
 use Rattle.call_load.proofs.load_item.Statement.{statement}
 use Rattle.call_load.proofs.load_item.Tie as tie
 
-module _ (c : tie.After-number-of) where
+module _ (c : tie.After-is-done) where
   abbrev image : List ℕ
   image = c .before .before .before .args .image .now
 
@@ -23,11 +23,11 @@ module _ (c : tie.After-number-of) where
   index = c .before .before .before .args .index
 
   -- the refusal's number tells whether the first checks accept
-  checked : accepted (entryChecks image index) ≡ eqb (c .number-of .result) 0
-  checked = accepted-number (entryChecks image index) _ _ refl (c .before .entry-refusal .ensures) (c .number-of .ensures)
+  checked : accepted (entryChecks image index) ≡ c .is-done .result
+  checked = accepted-done (entryChecks image index) refl (c .before .entry-refusal .ensures) (c .is-done .ensures)
 
 enters : (c : tie.Else1) → accepted (entryChecks (image (c .before)) (index (c .before))) ≡ true
-enters c = checked (c .before) ∙ eq-eqb _ _ (c .if1 .left)
+enters c = checked (c .before) ∙ not-false _ (c .if1 .left)
 
 -- the item is the entry with its type byte made one of the thirteen
 item-made : (c : tie.After-type-byte)
@@ -39,7 +39,7 @@ returns : tie.Need-returns
 unfolding loadItem
 returns c =
     let at = c .before .before in
-    let refused = checked at ∙ ne-eqb _ _ (c .before .if1 .taken) in
+    let refused = checked at ∙ not-true _ (c .before .if1 .taken) in
     rw (loadedOr-refused (entryChecks (image at) (index at)) _ _ refused, ← at .before .entry-refusal .ensures) (c .refused .ensures)
 
 entry-at-requires : tie.Need-entry-at-requires

@@ -8,7 +8,7 @@ use lib.ListN.{take, drop}
 use Rattle.flash.specs.Flash.{allOnes}
 use Rattle.sector.specs.Item.{loads, itemCrc}
 use Rattle.sector.specs.Layout.{number, entryAddress, entryAt}
-use Rattle.call_load.proofs.Laws.{field-entryAt}
+use Rattle.sector.proofs.Laws.{field-entryAt}
 use Rattle.call_load.proofs.loads_at.Statement.{statement}
 use Rattle.call_load.proofs.loads_at.Tie as tie
 

@@ -8,12 +8,12 @@ use lib.ListN.{length, take}
 use borrow.Author.Tests.{not-true, not-false}
 use Rattle.crc.specs.Crc.{crc32}
 use Rattle.flash.specs.Flash.{run, allOnes}
-use Rattle.page.specs.Record.{isUninitialized}
 use Rattle.page.specs.Writing.{stops}
-use Rattle.page.proofs.Checks.{accepted-done, accepted-usable, call-refused, call-stopped, call-done}
+use Rattle.sector.proofs.Laws.{accepted-done}
+use Rattle.page.proofs.Checks.{accepted-usable, call-refused, call-ended}
 use Rattle.sector.specs.declared.Answer.the-variants.{CorruptedData}
 use Rattle.sector.specs.Answers.{accepted}
-use Rattle.sector.specs.Header.{headerCrc, headerBody, headerBytes}
+use Rattle.sector.specs.Header.{headerCrc, headerBody, headerBytes, isUninitialized}
 use Rattle.sector.specs.Item.{crcStart}
 use Rattle.call_page_state.specs.Calls.{initialiseChecks, initialisePlan, initialised, initialise, initialiseImage}
 use borrow.Author.Needs.{needs}
@@ -62,29 +62,20 @@ write-aligned-requires c κs =
     let usable = accepted-usable (z .image .now) page (not (isUninitialized (page .state))) ((not (allOnes (z .image .now)), CorruptedData) ∷ []) (passed else) in
     omega (arith, usable .whole)
 
+initialized-requires : tie.Need-initialized-requires
+initialized-requires c κs =
+    let bytes = c .before .before .before .before .before .before in
+    c .header-crc .ensures ∙ ap headerCrc (bytes .header-bytes .ensures) ∙ header-crc-bytes (bytes .before .before .before .before .before .before .args .sequence)
+
 returns-2 : tie.Need-returns-2
 unfolding initialise initialiseImage
 returns-2 c =
-    let write = c .before .before .before in
+    let new = c .before in
+    let write = new .before .before .before .before in
     let else = write .before .before .before .before in
     let z = else .before .before .before .before .before .args in
-    call-stopped (initialiseChecks (z .image .now) (z .page)) (z .page) (initialised (z .page) (z .sequence)) (z .image .now)
-    (z .stop) (initialisePlan (z .sequence)) (passed else) (written write .0) (c .if2 .taken) (written write .1)
-
-initialized-requires : tie.Need-initialized-requires
-initialized-requires c κs =
-    let bytes = c .before .before .before .before .before .before .before in
-    c .header-crc .ensures ∙ ap headerCrc (bytes .header-bytes .ensures) ∙ header-crc-bytes (bytes .before .before .before .before .before .before .args .sequence)
-
-returns-3 : tie.Need-returns-3
-unfolding initialise initialiseImage
-returns-3 c =
-    let whole = c .before .before in
-    let write = whole .before .before .before in
-    let else = write .before .before .before .before in
-    let z = else .before .before .before .before .before .args in
-    call-done (initialiseChecks (z .image .now) (z .page)) (z .page) (initialised (z .page) (z .sequence)) (z .image .now)
-    (z .stop) (initialisePlan (z .sequence)) (passed else) (written write .0) (whole .if2 .left) (c .initialized .ensures) (written write .1)
+    call-ended (initialiseChecks (z .image .now) (z .page)) (z .page) (initialised (z .page) (z .sequence)) (z .image .now)
+    (z .stop) (initialisePlan (z .sequence)) (passed else) (written write .0) (new .initialized .ensures) (written write .1) (c .ended .ensures)
 
 pub initialize-spec : {M : Type 1} → statement M
 initialize-spec =
@@ -97,9 +88,8 @@ initialize-spec =
     (λ c κs. search needs)
     (λ c. search needs)
     write-aligned-requires
-    (λ c. search needs)
-    returns-2
     (λ c κs. search needs)
     initialized-requires
+    (λ c κs. search needs)
     (λ c. search needs)
-    returns-3)
+    returns-2)

@@ -5,7 +5,8 @@ use lib.Dec.{eqb}
 use lib.ListN.{length}
 use borrow.Author.Needs.{needs}
 use borrow.Author.Tests.{eq-eqb, ne-eqb, not-true, not-false}
-use Rattle.page.specs.Record.{isUninitialized, fitToUse}
+use Rattle.sector.specs.Header.{isUninitialized}
+use Rattle.page.specs.Record.{fitToUse}
 use Rattle.call_page_state.proofs.initialize_refusal.Statement.{statement}
 use Rattle.call_page_state.proofs.initialize_refusal.Tie as tie
 

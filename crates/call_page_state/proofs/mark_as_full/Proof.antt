@@ -7,7 +7,8 @@ use lib.Seq.{take-all}
 use borrow.Author.Needs.{needs}
 use borrow.Author.Tests.{not-true, not-false}
 use Rattle.flash.specs.Flash.{Unit4, run}
-use Rattle.page.proofs.Checks.{accepted-done, accepted-usable, call-refused, call-whole}
+use Rattle.sector.proofs.Laws.{accepted-done}
+use Rattle.page.proofs.Checks.{accepted-usable, call-refused, call-whole}
 use Rattle.page.specs.Writing.{notActive}
 use Rattle.sector.specs.Answers.{accepted}
 use Rattle.call_page_state.specs.Calls.{markFullChecks, markFullPlan, markedFull, markFull, markFullImage}

@@ -35,7 +35,7 @@ narrowed width value n all result h e m copied =
 returns : tie.Need-returns
 returns c =
     let z = c .before .before .before .args in
-    past (z .width) (z .value) (omega arith) (c .before .before .eight-bytes .ensures)
+    past (z .width) (z .value) (omega arith) (c .before .before .little-endian-8 .ensures)
 
 slice-aggregate-copy : tie.Need-slice-aggregate-copy
 slice-aggregate-copy c = sym (length-take-le _ _ (search needs))
@@ -47,7 +47,7 @@ returns-2 : tie.Need-returns-2
 returns-2 c =
     let z = c .before .before .before .before .before .before .before .args in
     narrowed (z .width) (z .value) _ _ _ (omega arith)
-    (c .before .before .before .before .before .before .eight-bytes .ensures)
+    (c .before .before .before .before .before .before .little-endian-8 .ensures)
     (c .before .before .before .before .before .wide-index .ensures)
     (c .before .copy .ensures .1)
 

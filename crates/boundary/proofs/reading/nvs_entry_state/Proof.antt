@@ -45,8 +45,8 @@ returns-3 c =
     let map = z .bytes .now in
     given-answer (badAnswer buffer || wrongSize 32 map) buffer (entryState map (z .index) .answer) (bitsOf (entryState map (z .index) .state)) (zeroItem) (noCounts)
     (both-right (badAnswer buffer) (wrongSize 32 map) (right-size 57 buffer (else .before .if1 .left)) (right-size 32 map (else .if2 .left)))
-    (gave .give-number .ensures .0 ∙ ap (λ (s : StateAnswer). numberOf (s .answer)) state)
-    (gave .give-number .ensures .1
+    (gave .give .ensures .0 ∙ ap (λ (s : StateAnswer). numberOf (s .answer)) state)
+    (gave .give .ensures .1
     ∙ ap (λ (value : ℕ). answerBytes (carriedByte (found .get-entry-state .result .answer)) value zeroItem noCounts) (bits .bits-of .ensures)
     ∙ ap (λ (s : StateAnswer). answerBytes (carriedByte (s .answer)) (bitsOf (s .state)) zeroItem noCounts) state)
 
@@ -59,6 +59,7 @@ nvs-entry-state-spec =
     (λ c κs. search needs)
     (λ c κs. search needs)
     (λ c κs. search needs)
+    (λ c. search needs)
     (λ c κs. search needs)
     (λ c. search needs)
     returns-3)

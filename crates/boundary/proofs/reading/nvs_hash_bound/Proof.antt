@@ -56,8 +56,8 @@ returns-4 c =
     let entries = z .entries .now in
     given-answer ((badAnswer buffer || wrongSize 32 map) || wrongSize 4032 entries) buffer (Done) (hashBound map (chunks 126 entries)) (zeroItem) (noCounts)
     (both-right (badAnswer buffer || wrongSize 32 map) (wrongSize 4032 entries) (both-right (badAnswer buffer) (wrongSize 32 map) (right-size 57 buffer (else .before .before .if1 .left)) (right-size 32 map (else .before .if2 .left))) (right-size 4032 entries (else .if3 .left)))
-    (gave .give-number .ensures .0)
-    (gave .give-number .ensures .1
+    (gave .give .ensures .0)
+    (gave .give .ensures .1
     ∙ ap (λ (value : ℕ). answerBytes 0 value zeroItem noCounts)
     (bound .hashed-item-bound .ensures ∙ ap₂ hashBound (array .array-32 .ensures) (cut .entries-of .ensures)))
 

@@ -30,8 +30,8 @@ returns-2 c =
     let image = z .image .now in
     given-answer (badAnswer buffer) buffer (loadItem image (z .index) .answer) (0) (loadItem image (z .index) .item) (noCounts)
     (right-size 57 buffer (else .if1 .left))
-    (gave .give-item .ensures .0 ∙ ap (λ (l : Loaded). numberOf (l .answer)) (found .load-item .ensures))
-    (gave .give-item .ensures .1 ∙ ap (λ (l : Loaded). answerBytes (carriedByte (l .answer)) 0 (l .item) noCounts) (found .load-item .ensures))
+    (gave .give .ensures .0 ∙ ap (λ (l : Loaded). numberOf (l .answer)) (found .load-item .ensures))
+    (gave .give .ensures .1 ∙ ap (λ (l : Loaded). answerBytes (carriedByte (l .answer)) 0 (l .item) noCounts) (found .load-item .ensures))
 
 pub nvs-load-spec : {M : Type 1} → statement M
 nvs-load-spec =

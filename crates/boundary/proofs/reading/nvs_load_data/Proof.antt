@@ -34,8 +34,8 @@ returns-2 c =
     let loaded = found .load-referenced-data-into .ensures .0 in
     let both =
     given-answer (badAnswer buffer) buffer (answer .answer) (answer .size) zeroItem noCounts good
-    (gave .give-number .ensures .0 ∙ ap (λ (d : DataLoaded). numberOf (d .answer)) loaded)
-    (gave .give-number .ensures .1 ∙ ap (λ (d : DataLoaded). answerBytes (carriedByte (d .answer)) (d .size) zeroItem noCounts) loaded) in
+    (gave .give .ensures .0 ∙ ap (λ (d : DataLoaded). numberOf (d .answer)) loaded)
+    (gave .give .ensures .1 ∙ ap (λ (d : DataLoaded). answerBytes (carriedByte (d .answer)) (d .size) zeroItem noCounts) loaded) in
     (both .0, (rw good (found .load-referenced-data-into .ensures .1), both .1))
 
 pub nvs-load-data-spec : {M : Type 1} → statement M

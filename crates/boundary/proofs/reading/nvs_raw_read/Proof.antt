@@ -30,8 +30,8 @@ returns-2 c =
     let image = z .image .now in
     given-answer (badAnswer buffer) buffer (rawEntry image (z .index) .answer) (0) (rawEntry image (z .index) .item) (noCounts)
     (right-size 57 buffer (else .if1 .left))
-    (gave .give-item .ensures .0 ∙ ap (λ (l : Loaded). numberOf (l .answer)) (found .read-raw-entry .ensures))
-    (gave .give-item .ensures .1 ∙ ap (λ (l : Loaded). answerBytes (carriedByte (l .answer)) 0 (l .item) noCounts) (found .read-raw-entry .ensures))
+    (gave .give .ensures .0 ∙ ap (λ (l : Loaded). numberOf (l .answer)) (found .read-raw-entry .ensures))
+    (gave .give .ensures .1 ∙ ap (λ (l : Loaded). answerBytes (carriedByte (l .answer)) 0 (l .item) noCounts) (found .read-raw-entry .ensures))
 
 pub nvs-raw-read-spec : {M : Type 1} → statement M
 nvs-raw-read-spec =

@@ -28,8 +28,8 @@ returns-2 c =
     let buffer = z .buffer .now in
     given-answer (badAnswer buffer) buffer (primitiveWidth (z .byte) .answer) (primitiveWidth (z .byte) .width) (zeroItem) (noCounts)
     (right-size 57 buffer (else .if1 .left))
-    (gave .give-number .ensures .0 ∙ ap (λ (w : WidthAnswer). numberOf (w .answer)) (found .get-primitive-bytes-width .ensures))
-    (gave .give-number .ensures .1 ∙ ap (λ (w : WidthAnswer). answerBytes (carriedByte (w .answer)) (w .width) zeroItem noCounts) (found .get-primitive-bytes-width .ensures))
+    (gave .give .ensures .0 ∙ ap (λ (w : WidthAnswer). numberOf (w .answer)) (found .get-primitive-bytes-width .ensures))
+    (gave .give .ensures .1 ∙ ap (λ (w : WidthAnswer). answerBytes (carriedByte (w .answer)) (w .width) zeroItem noCounts) (found .get-primitive-bytes-width .ensures))
 
 pub nvs-width-spec : {M : Type 1} → statement M
 nvs-width-spec =

@@ -1,4 +1,4 @@
--- `test_print::ranges` is safe and ends: each range ends at or behind its start and at the last cut at most, and no more cuts are counted than were passed.
+-- `show::ranges` is safe and ends: each range ends at or behind its start and at the last cut at most, and no more cuts are counted than were passed.
 use mathlib.Core.Logic.{⊎-elim}
 use Prim.Native.Nat.{_≤_, _+_, _-_}
 use native.Mathlib.Omega.{arith}

@@ -1,14 +1,13 @@
--- `call_page_state::header_verdict` meets its contract: each `return` is the first rule of the header that decides.
+-- `header::header_verdict` meets its contract: each `return` is the first rule of the header that decides.
 use mathlib.Core.Path.{_≡_, refl, sym, ap, _∙_}
 use mathlib.Core.Bool.{true, false, false≢true}
 use borrow.Author.Needs.{needs}
 use borrow.Author.Tests.{eq-eqb, ne-eqb, not-true, not-false}
-use Rattle.page.specs.Record.{isUninitialized}
 use Rattle.sector.specs.declared.PageState.{PageState}
 use Rattle.sector.specs.declared.PageState.the-variants.{Uninitialized, Active, Full, Freeing, Corrupt, Invalid}
-use Rattle.sector.specs.Header.{stateOfWord, headerCrc}
+use Rattle.sector.specs.Header.{stateOfWord, headerCrc, isUninitialized, isInUse}
 use Rattle.sector.specs.Layout.{stateWord, versionOf, storedHeaderCrc}
-use Rattle.opening.specs.Opening.{isOpenState, headerVerdictOf}
+use Rattle.opening.specs.Opening.{headerVerdictOf}
 use Rattle.opening.proofs.header.header_verdict.Statement.{statement}
 use Rattle.opening.proofs.header.header_verdict.Tie as tie
 
@@ -19,23 +18,17 @@ uninitialized : (c : tie.After-is-uninitialized)
     → isUninitialized (stateOfWord (stateWord (c .before .before .before .before .args .image .now))) ≡ c .is-uninitialized .result
 uninitialized c = ap isUninitialized (state (c .before)) ∙ sym (c .is-uninitialized .ensures)
 
-opens : (c : tie.After-is-open)
-    → isOpenState (stateOfWord (stateWord (c .before .before .before .before .before .before .args .image .now))) ≡ c .is-open .result
-opens c = ap isOpenState (state (c .before .before .before)) ∙ sym (c .is-open .ensures)
+opens : (c : tie.After-is-in-use)
+    → isInUse (stateOfWord (stateWord (c .before .before .before .before .before .before .args .image .now))) ≡ c .is-in-use .result
+opens c = ap isInUse (state (c .before .before .before)) ∙ sym (c .is-in-use .ensures)
 
-uninitialized-shut : (s : PageState) → isUninitialized s ≡ true → isOpenState s ≡ false
+uninitialized-shut : (s : PageState) → isUninitialized s ≡ true → isInUse s ≡ false
 uninitialized-shut Uninitialized e = refl
 uninitialized-shut Active e = absurd (false≢true e)
 uninitialized-shut Full e = absurd (false≢true e)
 uninitialized-shut Freeing e = absurd (false≢true e)
 uninitialized-shut Corrupt e = refl
 uninitialized-shut Invalid e = refl
-
--- the header's own CRC, as the code makes it
-header-crc : (c : tie.After-crc32)
-    → headerCrc (c .before .before .before .before .before .before .before .before .before .before .before .args .image .now) ≡ c .crc32 .result
-unfolding headerCrc
-header-crc c = sym (c .crc32 .ensures)
 
 returns : tie.Need-returns
 unfolding headerVerdictOf
@@ -59,7 +52,7 @@ returns-3 : tie.Need-returns-3
 unfolding headerVerdictOf
 returns-3 c =
     let begun = c .before .before in
-    rw (uninitialized (begun .before) ∙ begun .if1 .left, opens (c .before) ∙ not-true (c .before .is-open .result) (c .if3 .taken))
+    rw (uninitialized (begun .before) ∙ begun .if1 .left, opens (c .before) ∙ not-true (c .before .is-in-use .result) (c .if3 .taken))
 
 returns-4 : tie.Need-returns-4
 unfolding headerVerdictOf
@@ -69,7 +62,7 @@ returns-4 c =
     let image = begun .before .before .before .before .before .args .image .now in
     rw (
       uninitialized (begun .before) ∙ begun .if1 .left,
-      opens (opened .before) ∙ not-false (opened .before .is-open .result) (opened .if3 .left),
+      opens (opened .before) ∙ not-false (opened .before .is-in-use .result) (opened .if3 .left),
       ne-eqb (versionOf image) 0xFE (c .if4 .taken),
     )
 
@@ -77,30 +70,30 @@ returns-5 : tie.Need-returns-5
 unfolding headerVerdictOf
 returns-5 c =
     let summed = c .before .before in
-    let versed = summed .before .before in
+    let versed = summed .before in
     let opened = versed .before .before in
     let begun = opened .before .before in
     let image = begun .before .before .before .before .before .args .image .now in
     rw (
       uninitialized (begun .before) ∙ begun .if1 .left,
-      opens (opened .before) ∙ not-false (opened .before .is-open .result) (opened .if3 .left),
+      opens (opened .before) ∙ not-false (opened .before .is-in-use .result) (opened .if3 .left),
       eq-eqb (versionOf image) 0xFE (versed .if4 .left),
-      ne-eqb (headerCrc image) (storedHeaderCrc image) (λ e. c .if5 .taken (sym (header-crc summed) ∙ e ∙ sym (c .before .number-at2 .ensures))),
+      ne-eqb (headerCrc image) (storedHeaderCrc image) (λ e. c .if5 .taken (summed .crc-of .ensures ∙ e ∙ sym (c .before .number-at2 .ensures))),
     )
 
 returns-6 : tie.Need-returns-6
 unfolding headerVerdictOf
 returns-6 c =
     let summed = c .before .before in
-    let versed = summed .before .before in
+    let versed = summed .before in
     let opened = versed .before .before in
     let begun = opened .before .before in
     let image = begun .before .before .before .before .before .args .image .now in
     rw (
       uninitialized (begun .before) ∙ begun .if1 .left,
-      opens (opened .before) ∙ not-false (opened .before .is-open .result) (opened .if3 .left),
+      opens (opened .before) ∙ not-false (opened .before .is-in-use .result) (opened .if3 .left),
       eq-eqb (versionOf image) 0xFE (versed .if4 .left),
-      eq-eqb (headerCrc image) (storedHeaderCrc image) (header-crc summed ∙ c .if5 .left ∙ c .before .number-at2 .ensures),
+      eq-eqb (headerCrc image) (storedHeaderCrc image) (sym (summed .crc-of .ensures) ∙ c .if5 .left ∙ c .before .number-at2 .ensures),
     )
 
 pub header-verdict-spec : {M : Type 1} → statement M
@@ -117,9 +110,6 @@ header-verdict-spec =
     returns-3
     (λ c. search needs)
     returns-4
-    (λ c. search needs)
-    (λ c. search needs)
-    (λ c. search needs)
     (λ c κs. search needs)
     (λ c κs. search needs)
     returns-5

@@ -1,4 +1,4 @@
--- `test_print::counts` is safe and ends: the call rises.
+-- `show::counts` is safe and ends: the call rises.
 use Prim.Native.Nat.{_-_}
 use borrow.Author.Needs.{needs}
 use Rattle.recorded.proofs.show.counts.Statement.{statement}

@@ -1,4 +1,4 @@
--- `cuts_request::request_of` meets its contract: each field is that of the definition.
+-- `request::request_of` meets its contract: each field is that of the definition.
 use borrow.Author.Needs.{needs}
 use Rattle.recorded_file.specs.Requests.{requestOf}
 use Rattle.recorded_file.proofs.request.request_of.Statement.{statement}

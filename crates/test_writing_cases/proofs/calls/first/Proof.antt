@@ -1,4 +1,4 @@
--- `recorded_calls::first` is safe: a part is taken where there are as many bytes.
+-- `calls::first` is safe: a part is taken where there are as many bytes.
 use borrow.Author.Needs.{needs}
 use native.Mathlib.Omega.{arith}
 use lib.ListN.{length-take}

@@ -1,4 +1,4 @@
--- `recorded_calls::source` is safe: the entry lies within the source.
+-- `calls::source` is safe: the entry lies within the source.
 use native.Mathlib.Omega.{arith}
 use lib.ListN.{length-set}
 use borrow.Author.Needs.{needs}

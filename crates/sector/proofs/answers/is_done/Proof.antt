@@ -1,7 +1,7 @@
--- `page_write::is_done` meets its contract: it compares the answer's number.
+-- `answers::is_done` meets its contract: it compares the answer's number.
 use borrow.Author.Needs.{needs}
-use Rattle.page_write.proofs.is_done.Statement.{statement}
-use Rattle.page_write.proofs.is_done.Tie as tie
+use Rattle.sector.proofs.answers.is_done.Statement.{statement}
+use Rattle.sector.proofs.answers.is_done.Tie as tie
 
 returns : tie.Need-returns
 returns c = rw (c .number-of .ensures)

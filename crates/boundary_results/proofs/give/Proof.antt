@@ -1,11 +1,11 @@
--- `give_number` meets its contract: no item and no counts.
+-- `give` meets its contract: the answer is laid out with no counts.
 use mathlib.Core.Path.{ap₂, _∙_}
 use Prim.Native.Nat.{ℕ}
 use borrow.Author.Needs.{needs}
 use Rattle.sector.specs.declared.Statistics.{Statistics}
-use Rattle.boundary_encoding.specs.Encoding.{answerBytes, zeroItem}
-use Rattle.boundary_results.proofs.give_number.Statement.{statement}
-use Rattle.boundary_results.proofs.give_number.Tie as tie
+use Rattle.boundary_encoding.specs.Encoding.{answerBytes}
+use Rattle.boundary_results.proofs.give.Statement.{statement}
+use Rattle.boundary_results.proofs.give.Tie as tie
 
 returns : tie.Need-returns
 returns c =
@@ -15,11 +15,11 @@ returns c =
     let z = byte .before .before .before .args in (
       c .number-of .ensures,
       put .put-answer .ensures
-          ∙ ap₂ (λ (b : ℕ) (s : Statistics). answerBytes b (z .value) zeroItem s) (byte .carried-byte .ensures) (counts .no-counts .ensures),
+          ∙ ap₂ (λ (b : ℕ) (s : Statistics). answerBytes b (z .value) (z .item) s) (byte .carried-byte .ensures) (counts .no-counts .ensures),
     )
 
-pub give-number-spec : {M : Type 1} → statement M
-give-number-spec =
+pub give-spec : {M : Type 1} → statement M
+give-spec =
     tie.close
     (tie.spec
     (λ c κs. search needs)

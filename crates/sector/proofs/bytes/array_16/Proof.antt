@@ -1,9 +1,9 @@
--- `array_16` meets its contract: the bytes take all the places of the array.
+-- `bytes::array_16` meets its contract: the bytes take all the places of the array.
 use mathlib.Core.Path.{_∙_}
-use Rattle.boundary_encoding.proofs.Laws.{over-whole}
+use Rattle.sector.proofs.Laws.{over-whole}
 use borrow.Author.Needs.{needs}
-use Rattle.boundary_encoding.proofs.array_16.Statement.{statement}
-use Rattle.boundary_encoding.proofs.array_16.Tie as tie
+use Rattle.sector.proofs.bytes.array_16.Statement.{statement}
+use Rattle.sector.proofs.bytes.array_16.Tie as tie
 
 returns : tie.Need-returns
 returns c = c .before .put .ensures ∙ over-whole _ _ (c .before .before .before .before .pre)
