@@ -3,6 +3,7 @@ ghost use mathlib.Core.Path.{_≡_};
 ghost use Prim.Native.Nat.{_≤_};
 ghost use lib.ListN.{length};
 ghost use Rattle.sector.specs.Header.{headerCrc, stateOfWord, headerBytes};
+ghost use Rattle.sector.specs.Layout.{entrySize};
 use sector::CRC_START;
 use sector::PAGE_STATE_ACTIVE;
 use sector::PAGE_STATE_FREEING;
@@ -15,7 +16,7 @@ use sector::bytes;
 // The CRC over bytes 4..28 of the header that these bytes begin with: neither the state word, which changes
 // as the page fills, nor the CRC's own place.
 pub fn crc_of(bytes: &[u8]) -> u32
-    requires { ⌜ 28 ≤ length (now bytes) ⌝ }
+    requires { ⌜ entrySize ≤ length (now bytes) ⌝ }
     ensures { λ r. ⌜ r ≡ headerCrc (now (bytes .entry)) ⌝ }
 {
     crc::crc32(CRC_START, &bytes[4..28])

@@ -1,13 +1,13 @@
 -- `call_load_data::payload_refusal` meets its contract: each `return` is the first of `payloadChecks` that refuses, or none.
 use mathlib.Core.Path.{_≡_, sym, ap, _∙_}
 use mathlib.Core.Bool.{true, false}
-use Prim.Native.Nat.{ℕ, _+_}
+use Prim.Native.Nat.{ℕ, _+_, _-_, _*_}
 use native.Mathlib.Omega.{arith}
 use borrow.Author.Needs.{needs}
 use borrow.Author.Tests.{eq-eqb, ne-eqb, lt-ltb, le-ltb, not-true, not-false}
 use lib.Dec.{ltb}
 use Rattle.sector.specs.declared.Kind.{Kind}
-use Rattle.sector.specs.Layout.{entriesPerPage, spanOf, typeByteOf}
+use Rattle.sector.specs.Layout.{entriesPerPage, entrySize, spanOf, sizeOf, typeByteOf}
 use Rattle.sector.specs.Types.{kindOf, itemType, hasPayload}
 use Rattle.call_load_data.proofs.payload_refusal.Statement.{statement}
 use Rattle.call_load_data.proofs.payload_refusal.Tie as tie
@@ -31,6 +31,14 @@ spans c =
     let args = c .before .before .before .before .before .args in
     le-ltb entriesPerPage (args .index + spanOf (args .t1)) (omega arith)
 
+-- past the fourth the size is within the span
+holds : (c : tie.Else4)
+    → let entry = c .before .before .before .before .before .before .before .args .t1 in
+    ltb (entrySize * (spanOf entry - 1)) (sizeOf entry) ≡ false
+holds c =
+    let entry = c .before .before .before .before .before .before .before .args .t1 in
+    le-ltb (entrySize * (spanOf entry - 1)) (sizeOf entry) (rw (← c .before .size-of .ensures .0) (c .if4 .left))
+
 returns : tie.Need-returns
 returns c =
     let called = c .before .before .before in
@@ -50,12 +58,12 @@ returns-3 c =
 returns-4 : tie.Need-returns-4
 returns-4 c =
     let spanned = c .before .before in
+    let entry = spanned .before .before .before .before .before .args .t1 in
     rw (
       payload (spanned .before .before),
       ne-eqb _ _ (spanned .before .if2 .left),
       spans spanned,
-      ← c .before .size-of .ensures .0,
-      lt-ltb _ _ (c .if4 .taken),
+      lt-ltb (entrySize * (spanOf entry - 1)) (sizeOf entry) (rw (← c .before .size-of .ensures .0) (c .if4 .taken)),
     )
 
 returns-5 : tie.Need-returns-5
@@ -66,8 +74,8 @@ returns-5 c =
       payload (spanned .before .before),
       ne-eqb _ _ (spanned .before .if2 .left),
       spans spanned,
+      holds held,
       ← held .before .size-of .ensures .0,
-      le-ltb _ _ (held .if4 .left),
       ← c .before .rounded-up .ensures,
       lt-ltb _ _ (c .if5 .taken),
     )
@@ -80,8 +88,8 @@ returns-6 c =
       payload (spanned .before .before),
       ne-eqb _ _ (spanned .before .if2 .left),
       spans spanned,
+      holds held,
       ← held .before .size-of .ensures .0,
-      le-ltb _ _ (held .if4 .left),
       ← c .before .rounded-up .ensures,
       le-ltb _ _ (c .if5 .left),
     )

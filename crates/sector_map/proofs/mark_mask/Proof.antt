@@ -1,5 +1,5 @@
 -- `sector_map::mark_mask` meets its contract: a shift of two bits a pair multiplies by 4, and nothing leaves the byte.
-use mathlib.Core.Path.{_≡_}
+use mathlib.Core.Path.{_≡_, ap}
 use Prim.Native.Nat.{ℕ, zero, suc, _-_, _*_, _%_, _^_, _<_, _≤_}
 use native.Mathlib.Omega.{arith}
 use borrow.Author.Needs.{needs}
@@ -20,7 +20,11 @@ shifted m (suc (suc (suc zero))) h l = omega arith
 shifted m (suc (suc (suc (suc k)))) h l = absurd (omega arith)
 
 returns : tie.Need-returns
-returns c = rw (c .bits-of .ensures, shifted (3 - bitsOf (c .before .args .state)) (c .before .args .pair) (omega arith) (c .before .pre))
+returns c =
+    let z = c .before .args in
+    let cleared : (3 - c .bits-of .result) * 2 ^ (2 * z .pair) % 256 ≡ (3 - bitsOf (z .state)) * 4 ^ z .pair =
+    rw (c .bits-of .ensures) (shifted (3 - bitsOf (z .state)) (z .pair) (omega arith) (c .before .pre)) in
+    ap (λ (bits : ℕ). 0xFF - bits) cleared
 
 pub mark-mask-spec : {M : Type 1} → statement M
 mark-mask-spec =

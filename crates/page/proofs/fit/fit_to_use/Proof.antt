@@ -6,7 +6,7 @@ use borrow.Author.Tests.{le-leb, lt-leb, not-true, not-false}
 use Rattle.sector.specs.declared.EntryMapState.the-variants.{Written}
 use Rattle.sector.specs.declared.Statistics.{Statistics}
 use Rattle.sector.specs.Map.{statesOf, countIn, statistics}
-use Rattle.page.specs.Record.{writtenFits, listedFit, behindZero, blankFits, fitToUse}
+use Rattle.page.specs.Record.{nextFree, writtenFits, listedFit, behindZero, blankFits, fitToUse}
 use Rattle.page.proofs.fit.fit_to_use.Statement.{statement}
 use Rattle.page.proofs.fit.fit_to_use.Tie as tie
 
@@ -15,7 +15,9 @@ past-counts : (c : tie.Else2)
     → let page = c .before .before .before .before .before .args .page in
     fitToUse page ≡ (writtenFits page && (listedFit page && (behindZero page && blankFits page)))
 unfolding fitToUse
-past-counts c = rw (le-leb _ _ (c .before .before .if1 .left), le-leb _ _ (c .if2 .left))
+past-counts c =
+    let page = c .before .before .before .before .before .args .page in
+    rw (le-leb (nextFree page) 126 (c .before .before .if1 .left), le-leb (page .len) (nextFree page) (c .if2 .left))
 
 -- the statistics have the map's Written entries
 written : (c : tie.After-get-entry-statistics)
@@ -40,7 +42,7 @@ past-listed c =
 
 returns : tie.Need-returns
 unfolding fitToUse
-returns c = rw (lt-leb _ _ (c .if1 .taken))
+returns c = rw (lt-leb (nextFree (c .before .before .before .args .page)) 126 (c .if1 .taken))
 
 returns-2 : tie.Need-returns-2
 unfolding fitToUse
@@ -55,14 +57,19 @@ returns-4 : tie.Need-returns-4
 returns-4 c =
     rw (past-written (c .before .before .before), sym (c .before .listed-fit .ensures) ∙ not-true _ (c .if4 .taken))
 
+-- what was asked of the places after those in use
+behind : (c : tie.After-behind-zero)
+    → behindZero (c .before .before .before .before .before .before .before .before .before .before .before .before .before .before .args .page)
+    ≡ c .behind-zero .result
+behind c = sym (c .behind-zero .ensures)
+
 returns-5 : tie.Need-returns-5
-returns-5 c =
-    rw (past-listed (c .before .before), sym (c .before .behind-zero .ensures) ∙ not-true _ (c .if5 .taken))
+returns-5 c = rw (past-listed (c .before .before), behind (c .before) ∙ not-true _ (c .if5 .taken))
 
 returns-6 : tie.Need-returns-6
 returns-6 c =
     let past = c .before in
-    rw (past-listed (past .before .before), sym (past .before .behind-zero .ensures) ∙ not-false _ (past .if5 .left)) (c .blank-fits .ensures)
+    rw (past-listed (past .before .before), behind (past .before) ∙ not-false _ (past .if5 .left)) (c .blank-fits .ensures)
 
 pub fit-to-use-spec : {M : Type 1} → statement M
 fit-to-use-spec =
