@@ -1,4 +1,5 @@
-// Appending items (page.rs): a single entry, a namespace. Data of any length is appended by `append_variable`, whose definitions are here.
+// Appending items (page.rs): a single entry, a namespace. Data of any length is appended by `call_append_variable`; its
+// definitions are here.
 ghost use mathlib.Core.Path.{_≡_};
 ghost use mathlib.Core.Bool.{true};
 ghost use Prim.Native.Nat.{_+_, _≤_};
@@ -56,7 +57,7 @@ fn is_single(named: ItemType) -> bool
     }
 }
 
-// Whether the request is no single's: its type is none of the nine, or its span is not 1.
+// Whether append single must refuse this request: its type is none of the nine, or its span is not 1.
 fn is_bad_single(item: Single) -> bool
     ensures { λ r. ⌜ r ≡ singleRequest item .0 ⌝ }
 {

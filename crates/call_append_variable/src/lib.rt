@@ -1,4 +1,4 @@
-// Appending data of any length (page.rs): its header entry, and the data behind it.
+// Appending data of any length (page.rs): its header entry, and the data after it.
 ghost use mathlib.Core.Path.{_≡_};
 ghost use mathlib.Core.Bool.{true};
 ghost use mathlib.Core.List.{_++_};
@@ -35,7 +35,7 @@ fn span_for(size: usize) -> usize
     whole + 2
 }
 
-// Whether the request is not of data: its type has no payload, or it is in namespace 0.
+// Whether append variable must refuse this request: its type has no payload, or it is in namespace 0.
 fn is_bad_variable(item: Variable) -> bool
     ensures { λ r. ⌜ r ≡ variableRequest item .0 ⌝ }
 {
@@ -88,7 +88,7 @@ fn with_variable(page: ThinPage, item: Variable, payload: &[u8]) -> ThinPage
     page_write::with_item(page, span_for(payload.len()), item.namespace, hash)
 }
 
-// Programs the header entry, then the data behind it, and returns the units of both.
+// Programs the header entry, then the data after it, and returns the units of both.
 fn write_header_and_data(
     image: &mut [u8],
     header: &[u8; 32],
@@ -134,7 +134,7 @@ fn write_variable(
     bytes + sealed
 }
 
-// Appends data (`ThinPage::write_variable_sized_item`): its header entry at next free, the data behind it, their marks,
+// Appends data (`ThinPage::write_variable_sized_item`): its header entry at next free, the data after it, their marks,
 // and the state word where no entry is free then. It is stopped after `stop` units where it has more.
 //
 // Refuses, in this order: BadImage, BadRecord, WrongState unless Active, BadRequest unless the type is Sized, Blob or

@@ -52,7 +52,7 @@ copy-fits image page source i h =
 
 -- ---- the plan
 
--- from the item's first byte up to the entry behind it
+-- from the item's first byte up to the entry after it
 pub part-copied : (source : List ℕ) (i : ℕ)
     → take (entryAddress (i + spanOf (entryAt source i)) - entryAddress i) (drop (entryAddress i) source) ≡ copiedBytes source i
 part-copied source i = ap (λ (n : ℕ). take n (drop (entryAddress i) source)) (size i (spanOf (entryAt source i)))
@@ -60,7 +60,7 @@ part-copied source i = ap (λ (n : ℕ). take n (drop (entryAddress i) source)) 
     size : (i n : ℕ) → entryAddress (i + n) - entryAddress i ≡ entrySize * n
     size i n = omega arith
 
--- the bytes from the item's first entry up to the one behind it, and the marks of the record that has the item
+-- the bytes from the item's first entry up to the one after it, and the marks of the record that has the item
 pub plan-copied : (page new : ThinPage) (source entry : List ℕ) (i start first end hash : ℕ)
     → entry ≡ entryAt source i → new ≡ withItem page (spanOf entry) (namespaceOf entry) hash
     → start ≡ nextFree page → first ≡ entryAddress i → end ≡ entryAddress (i + spanOf entry)

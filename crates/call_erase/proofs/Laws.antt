@@ -53,7 +53,7 @@ module _ (index : ℕ) (list : List Listed) (k : ℕ) (inside : k < length list)
   unfolding without
   without-same e = one-more ∙ rw (eq-eqb _ _ e) (append-nil _)
 
-  -- a place that names another goes behind those kept
+  -- a place that names another goes after those kept
   pub without-other : (getD list k noItem .index ≡ index → ⊥)
       → without index (take (k + 1) list) ≡ without index (take k list) ++ (getD list k noItem ∷ [])
   unfolding without
@@ -68,7 +68,7 @@ padded-next places place counts holds h =
 
 -- ---- entries that are Written
 
--- the first of them, and those behind it
+-- the first of them, and those after it
 pub written-next : (map : List ℕ) (i end : ℕ) → length map ≡ 32 → i < end → end ≤ entriesPerPage
     → every (sameState Written) (take (end - i) (drop i (statesOf map)))
     ≡ (sameState Written (stateAt map i) && every (sameState Written) (take (end - (i + 1)) (drop (i + 1) (statesOf map))))

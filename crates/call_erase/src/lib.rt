@@ -87,7 +87,7 @@ struct Places {
     len: u8,
 }
 
-// The places in use that name another index, in their order, and zero places behind them (`item_hash_list.retain`).
+// The places in use that name another index, in their order, and zero places after them (`item_hash_list.retain`).
 fn without(list: [Listed; 126], len: usize, index: usize) -> Places
     requires { ⌜ len ≤ entriesPerPage ⌝ }
     ensures { λ r. ⌜ (r .len ≡ length (without index (take len list))) × (r .list ≡ padded (without index (take len list))) ⌝ }

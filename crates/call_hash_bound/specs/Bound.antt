@@ -9,7 +9,7 @@ use Rattle.sector.specs.declared.EntryMapState.the-variants.{Empty, Written, Er
 use Rattle.sector.specs.Layout.{namespaceOf, spanOf}
 use Rattle.sector.specs.Map.{statesOf}
 
--- entries to pass behind a Written one: its span less 1 if that is at least 1 and fits, else none
+-- entries to pass after a Written one: its span less 1 if that is at least 1 and fits, else none
 abbrev pub passedBehind : List ℕ → List (List ℕ) → ℕ
 passedBehind entry rest = cond (leb 1 (spanOf entry) && leb (spanOf entry - 1) (length rest)) (spanOf entry - 1) 0
 

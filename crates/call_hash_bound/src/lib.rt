@@ -17,7 +17,7 @@ fn count_of(entry: [u8; 32]) -> usize
     1
 }
 
-// Entries to pass behind a Written one, of which `left` are left on the page: its span less 1 if that is
+// Entries to pass after a Written one, of which `left` are left on the page: its span less 1 if that is
 // at least 1 and fits, else none.
 fn passed_behind(entry: [u8; 32], left: usize) -> usize
     ensures { λ r. ⌜ ((rest : List (List ℕ)) → length rest ≡ left → r ≡ passedBehind entry rest) × (r ≤ left) ⌝ }

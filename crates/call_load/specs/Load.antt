@@ -1,6 +1,6 @@
 -- Reading items (01, 'Load'): the map is not consulted, so an erased item still loads.
 --
--- In order: raw read; load. Not here: load data (crate payload).
+-- In order: raw read; load. Not here: load data (crate call_load_data).
 use mathlib.Core.Bool.{not, cond}
 use mathlib.Core.List.{List, [], _∷_}
 use Prim.Native.Nat.{ℕ}

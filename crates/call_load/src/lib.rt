@@ -1,4 +1,4 @@
-// Reading items out of a sector (page.rs): load and raw read. The data behind an item is `payload`'s.
+// Reading items out of a sector (page.rs): load and raw read. The data after an item's header is read by `call_load_data`.
 use sector::Answer;
 use sector::ENTRIES_PER_PAGE;
 use sector::ENTRY_SIZE;

@@ -59,7 +59,7 @@ pub length-part : (image : List ℕ) (start n : ℕ) → start + n ≤ length im
     → length (take (start + n - start) (drop start image)) ≡ n
 length-part image start n h = simp (length-take, length-drop) (omega arith)
 
--- its bytes, and what stays behind them
+-- its bytes, and what stays after them
 pub part-copied : (image output : List ℕ) (start n : ℕ) → start + n ≤ length image
     → let part = take (start + n - start) (drop start image) in
     part ++ drop (length part) output ≡ take n (drop start image) ++ drop n output

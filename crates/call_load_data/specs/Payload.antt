@@ -1,4 +1,4 @@
--- Reading the data behind a header (01, 'Load data'): the item is loaded first, and the map is not consulted.
+-- Reading the data after a header (01, 'Load data'): the item is loaded first, and the map is not consulted.
 --
 -- In order: the checks; the answer and the output. The payload CRC is not checked here.
 use mathlib.Core.Bool.{not, cond}
@@ -38,7 +38,7 @@ dataAnswer image i room =
     (record { answer = Done; size = sizeOf (entryAt image i) })
     (record { answer = refusal (dataChecks image i room); size = 0 })
 
--- the rounded length from the sector, behind the header; the rest stays, and all of it on a refusal
+-- the rounded length from the sector, after the header; the rest stays, and all of it on a refusal
 unfoldable pub dataOutput : List ℕ → ℕ → List ℕ → List ℕ
 dataOutput image i output =
     let n = roundedUp (sizeOf (entryAt image i)) in

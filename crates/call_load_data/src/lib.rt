@@ -1,4 +1,4 @@
-// Reading the data behind an item's header out of a sector (page.rs): load data.
+// Reading the data after an item's header out of a sector (page.rs): load data.
 ghost use mathlib.Core.Path.{_≡_};
 ghost use mathlib.Core.List.{_++_};
 ghost use Prim.Native.Nat.{_^_, _≤_, _<_};
@@ -61,7 +61,7 @@ fn copy_to(part: &[u8], output: &mut [u8])
     }
 }
 
-// The data behind an item's header, to the start of the output, and its size
+// The data after an item's header, to the start of the output, and its size
 // (`ThinPage::load_referenced_data_into`). The output gets the size rounded up to 4 bytes, its rest stays.
 // The payload's CRC is not checked.
 //

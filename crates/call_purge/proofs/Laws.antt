@@ -10,7 +10,7 @@ use Rattle.flash.specs.Flash.{Unit4, unit, units, run}
 use Rattle.flash.proofs.Laws.{run-append}
 use Rattle.sector.specs.Layout.{entrySize, entryAddress}
 
--- whole units, and then those of the bytes behind them
+-- whole units, and then those of the bytes after them
 pub units-append : (n address : ℕ) (xs ys : List ℕ) → length xs ≡ 4 * n → units address (xs ++ ys) ≡ units address xs ++ units (address + 4 * n) ys
 unfolding units
 units-append zero address [] ys h = rw add-zero
@@ -24,7 +24,7 @@ units-append (suc n) address (a ∷ b ∷ c ∷ d ∷ xs) ys h =
     ap (λ (rest : List Unit4). unit address (a ∷ b ∷ c ∷ d ∷ []) ∷ rest)
     (units-append n (address + 4) xs ys (omega arith) ∙ ap (λ (m : ℕ). units (address + 4) xs ++ units m ys) next)
 
--- the first entry's, and then those of the entries behind it
+-- the first entry's, and then those of the entries after it
 pub zeros-suc : (i n : ℕ)
     → units (entryAddress i) (replicate (entrySize * suc n) 0)
     ≡ units (entryAddress i) (replicate entrySize 0) ++ units (entryAddress (suc i)) (replicate (entrySize * n) 0)
@@ -41,7 +41,7 @@ pub take-zeros : (address : ℕ) → take 8 (units address (replicate entrySize 
 unfolding units
 take-zeros address = refl
 
--- a loop's turn: an entry zeroed, and then those behind it
+-- a loop's turn: an entry zeroed, and then those after it
 pub run-zeros : (i n : ℕ) (image : List ℕ) {after : List ℕ} → after ≡ run (units (entryAddress i) (replicate entrySize 0)) image
     → run (units (entryAddress (i + 1)) (replicate (entrySize * n) 0)) after ≡ run (units (entryAddress i) (replicate (entrySize * suc n) 0)) image
 run-zeros i n image zeroed =

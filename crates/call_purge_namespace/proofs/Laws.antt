@@ -15,7 +15,7 @@ use Rattle.sector.specs.Map.{stateAt, statesOf}
 use Rattle.sector.proofs.Laws.{length-entriesOf, getD-entriesOf, length-statesOf, getD-statesOf}
 use Rattle.call_purge_namespace.specs.PurgeNamespace.{purged, passed, toZero, zeroUnits}
 
--- a loop's turn: an entry zeroed where it is marked, and then those behind it
+-- a loop's turn: an entry zeroed where it is marked, and then those after it
 pub run-marked : (marks : List Bool) (i : ℕ) (image : List ℕ) {after : List ℕ} → i < length marks
     → after ≡ run (cond (getD marks i false) (units (entryAddress i) (replicate entrySize 0)) []) image
     → run (zeroUnits (i + 1) (drop (i + 1) marks)) after ≡ run (zeroUnits i (drop i marks)) image
@@ -27,7 +27,7 @@ run-marked marks i image inside zeroed =
 -- ---- the walk
 
 module _ (namespace : ℕ) (map image : List ℕ) (i : ℕ) (long : length map ≡ 32) (inside : i < entriesPerPage) where
-  -- an entry behind a header goes as the header did
+  -- an entry after a header goes as the header did
   pub toZero-passed : (k : ℕ) (zeroing : Bool) → 0 < k
       → toZero namespace k zeroing (drop i (statesOf map)) (drop i (entriesOf image))
       ≡ zeroing ∷ toZero namespace (k - 1) zeroing (drop (i + 1) (statesOf map)) (drop (i + 1) (entriesOf image))

@@ -17,7 +17,7 @@ use Rattle.sector.specs.Item.{loads}
 use Rattle.sector.specs.Layout.{entrySize, entryAddress, entriesOf, namespaceOf, spanOf}
 use Rattle.sector.specs.Map.{statesOf}
 
--- entries to pass behind a header that loads; a span of 0 steps by 1 too
+-- entries to pass after a header that loads; a span of 0 steps by 1 too
 abbrev pub behindHeader : List ℕ → ℕ
 behindHeader entry = cond (loads entry) (spanOf entry - 1) 0
 

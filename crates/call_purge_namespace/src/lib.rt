@@ -16,7 +16,7 @@ use sector::EntryMapState;
 use sector::SECTOR_SIZE;
 use sector::layout;
 
-// What the walk does at an entry: whether the entry is zeroed, and how many behind it go the same way.
+// What the walk does at an entry: whether the entry is zeroed, and how many of the following entries share its fate.
 struct Step {
     zeroed: bool,
     behind: usize,
@@ -98,7 +98,7 @@ fn zero_marked(image: &mut [u8], marks: [bool; 126])
 // Zeroes the Erased items of a namespace (`ThinPage::purge_erased_for_namespace`); the record comes back as it was.
 //
 // Refuses, in this order: BadImage, BadRecord; in any state. Which entries to zero is found out first. The Rust zeroes as it
-// walks: what it has zeroed lies behind it, so it reads the same items.
+// walks. It never comes back to an entry, so it reads the same items.
 pub fn purge_erased_for_namespace(image: &mut [u8], page: ThinPage, namespace: u8) -> Outcome
     ensures answer { λ r. ⌜ r ≡ purgeNamespace (now (image .entry)) page namespace ⌝ }
     ensures image { λ r. ⌜ now (image .exit) ≡ purgeNamespaceImage (now (image .entry)) page namespace ⌝ }

@@ -26,7 +26,7 @@ fn shift_32(word: u32) -> u32
         ^ crc_tables::nibble_32(word % 16)
 }
 
-// 64 shifts of a word: its own, and those of the word behind it.
+// 64 shifts of a word: its own, and those of the word after it.
 fn shift_64(word: u32) -> u32
     ensures { λ r. ⌜ r ≡ shifts 64 word ⌝ }
 {

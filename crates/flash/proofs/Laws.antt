@@ -133,7 +133,7 @@ program-one [] address new = refl
 program-one (old ∷ image) zero new = ap (λ (rest : List ℕ). bitAnd old new ∷ rest) (program-nil image zero)
 program-one (old ∷ image) (suc address) new = ap (λ (rest : List ℕ). old ∷ rest) (program-one image address new)
 
--- some bytes, and then those behind them
+-- some bytes, and then those after them
 pub program-append : (image : List ℕ) (address : ℕ) (xs ys : List ℕ)
     → program image address (xs ++ ys) ≡ program (program image address xs) (address + length xs) ys
 unfolding program
@@ -172,7 +172,7 @@ take-program (suc n) (old ∷ image) zero bytes h = absurd (omega arith)
 take-program (suc n) (old ∷ image) (suc address) bytes h =
     ap (λ (rest : List ℕ). old ∷ rest) (take-program n image address bytes (omega arith))
 
--- what lies behind the bytes stays
+-- what lies after the bytes stays
 pub drop-program : (n : ℕ) (image : List ℕ) (address : ℕ) (bytes : List ℕ) → address + length bytes ≤ n
     → drop n (program image address bytes) ≡ drop n image
 unfolding program
@@ -265,7 +265,7 @@ program-clears [] clears-nil = refl
 program-clears (x ∷ rest) clears-nil = refl
 program-clears rest (clears-cons e o) = rw (e, program-clears rest o)
 
--- behind a front
+-- after a front
 pub program-over : {old new : List ℕ} (front rest : List ℕ) → OnlyClears old new
     → program (front ++ (old ++ rest)) (length front) new ≡ front ++ (new ++ rest)
 program-over {old} {new} front rest o =
@@ -490,7 +490,7 @@ take-run image within-nil = refl
 take-run {from} image (within-cons address bytes h g w) =
     take-run (program image address bytes) w ∙ take-program from image address bytes h
 
--- what lies behind all of them
+-- what lies after all of them
 pub drop-run : {from to : ℕ} {plan : List Unit4} (image : List ℕ) → Within from to plan → drop to (run plan image) ≡ drop to image
 unfolding run
 drop-run image within-nil = refl
@@ -514,7 +514,7 @@ run-inside {to = to} front rest (within-cons address bytes {plan} h g w) l =
     ap (run plan) (program-inside front rest address bytes (omega arith))
     ∙ run-inside (program front address bytes) rest w (rw length-program l)
 
--- each unit of a plan ends at or before a stretch, or starts at or behind it
+-- each unit of a plan ends at or before a stretch, or starts at or after it
 pub data Outside (from to : ℕ) : List Unit4 → Type 0 where
   outside-nil : Outside from to []
   outside-cons : (address : ℕ) (bytes : List ℕ) {plan : List Unit4} → (address + length bytes ≤ from) ⊎ (to ≤ address)

@@ -20,7 +20,7 @@ use Rattle.page.specs.Record.{nextFree, noItem, padded, placeFits, place
 -- ---- every
 
 module _ {A : Type 0} (test : A → Bool) (xs : List A) (k : ℕ) (d : A) (inside : k < length xs) where
-  -- one that passes is left behind
+  -- one that holds is passed
   pub every-drop-true : test (getD xs k d) ≡ true → every test (drop k xs) ≡ every test (drop (k + 1) xs)
   every-drop-true h = rw (add-one k, every-drop test xs k d inside, h)
 

@@ -42,7 +42,7 @@ unfoldable pub without : ℕ → List Listed → List Listed
 without index [] = []
 without index (place ∷ places) = cond (eqb (place .index) index) (without index places) (place ∷ without index places)
 
--- the places in use, and zero places behind them, 126 in all
+-- the places in use, and zero places after them, 126 in all
 abbrev pub padded : List Listed → List Listed
 padded places = places ++ replicate (entriesPerPage - length places) noItem
 

@@ -58,7 +58,7 @@ stops n plan = ltb n (length plan)
 
 -- ---- the plan of an item
 
--- the state word Full, where no entry is free behind the item
+-- the state word Full, where no entry is free after the item
 abbrev pub fullUnits : ℕ → List Unit4
 fullUnits end = cond (eqb end entriesPerPage) (units 0 (stateBytes Full)) []
 

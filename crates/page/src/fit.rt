@@ -42,7 +42,7 @@ fn listed_fit(list: [Listed; 126], len: usize) -> bool
     true
 }
 
-// Each place behind those is zero.
+// Each place after those is zero.
 fn behind_zero(list: [Listed; 126], len: usize) -> bool
     requires { ⌜ len ≤ 126 ⌝ }
     ensures { λ r. ⌜ r ≡ every placeZero (drop len list) ⌝ }

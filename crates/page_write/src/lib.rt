@@ -91,7 +91,7 @@ pub fn write_marks(
     flash::write_aligned(image, MAP_OFFSET + first, &map[first..end], budget)
 }
 
-// Programs an item's marks, then the state word where no entry is free behind it, and returns the units of both.
+// Programs an item's marks, then the state word where no entry is free after it, and returns the units of both.
 pub fn seal(image: &mut [u8], map: [u8; 32], start: usize, span: usize, budget: usize) -> usize
     requires { ⌜ (length (now image) ≡ 4096) × (1 ≤ span) × (start + span ≤ 126) ⌝ }
     ensures total { λ r. ⌜ r ≡ length (mapUnits start span map ++ fullUnits (start + span)) ⌝ }
@@ -127,7 +127,7 @@ pub fn write_entries(
 
 // ---- the record
 
-// The first entry behind those that are used or erased (`get_next_free_entry`).
+// The first entry after those that are used or erased (`get_next_free_entry`).
 pub fn get_next_free_entry(page: ThinPage) -> usize
     ensures { λ r. ⌜ r ≡ nextFree page ⌝ }
 {
@@ -141,7 +141,7 @@ pub fn get_free_entry_count(page: ThinPage) -> usize
     remaining(ENTRIES_PER_PAGE, get_next_free_entry(page))
 }
 
-// Full where no entry is free behind an item.
+// Full where no entry is free after an item.
 fn state_after(state: PageState, end: usize) -> PageState
     ensures { λ r. ⌜ r ≡ cond (eqb end 126) Full state ⌝ }
 {
@@ -159,7 +159,7 @@ fn len_after(len: u8, namespace: u8) -> u8
     if namespace == 0 { len } else { len + 1 }
 }
 
-// The place behind those in use, but for a namespace entry.
+// The place after those in use, but for a namespace entry.
 fn list_after(list: [Listed; 126], len: u8, place: Listed, namespace: u8) -> [Listed; 126]
     requires { ⌜ len < 126 ⌝ }
     ensures { λ r. ⌜ r ≡ cond (eqb namespace 0) list (set list len place) ⌝ }

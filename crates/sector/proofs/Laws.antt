@@ -46,7 +46,7 @@ same-bytes-length (x ∷ xs) (y ∷ ys) h =
     ap (λ (b : Bool). eqb x y && b) (same-bytes-length xs ys (λ e. h (ap suc e))) ∙ and-false (eqb x y)
 
 module _ (xs ys : List ℕ) (k : ℕ) (inside : k < length xs) (within : k < length ys) where
-  -- two lists from k on: their first elements, and what is behind them
+  -- two lists from k on: their first elements, and what is after them
   same-bytes-drop : sameBytes (drop k xs) (drop k ys) ≡ (eqb (getD xs k 0) (getD ys k 0) && sameBytes (drop (k + 1) xs) (drop (k + 1) ys))
   same-bytes-drop = rw (add-one k, drop-cons xs k 0 inside, drop-cons ys k 0 within)
 
@@ -159,7 +159,7 @@ accepted-append [] ys = refl
 accepted-append ((true, answer) ∷ xs) ys = refl
 accepted-append ((false, answer) ∷ xs) ys = accepted-append xs ys
 
--- those behind are asked where those in front accept
+-- those after are asked where those in front accept
 pub refusal-append : (xs ys : List Check) → refusal (xs ++ ys) ≡ cond (accepted xs) (refusal ys) (refusal xs)
 refusal-append [] ys = refl
 refusal-append ((true, answer) ∷ xs) ys = refl

@@ -221,7 +221,7 @@ take-marked s zero n (t ∷ states) (suc k) h = absurd (not-suc-le-zero h)
 take-marked s (suc i) n (t ∷ states) (suc k) h =
     ap (λ (rest : List EntryMapState). t ∷ rest) (take-marked s i n states k (le-of-suc-le-suc h))
 
--- states behind the range stay
+-- states after the range stay
 pub drop-marked : (s : EntryMapState) (i n : ℕ) (states : List EntryMapState) (k : ℕ) → i + n ≤ k → drop k (marked s i n states) ≡ drop k states
 drop-marked s i n [] k h = refl
 drop-marked s zero zero (t ∷ states) k h = refl
@@ -418,7 +418,7 @@ take-markRange s i (suc n) map k h =
     take-markRange s (suc i) n (mark s i map) k (omega arith)
     ∙ take-set-le k map (i / 4) (bitAnd (getD map (i / 4) 0) (markMask s (i % 4))) (omega arith)
 
--- bytes behind the range stay
+-- bytes after the range stay
 pub drop-markRange : (s : EntryMapState) (i n : ℕ) (map : List ℕ) (k : ℕ) → i + n ≤ 4 * k → drop k (markRange s i n map) ≡ drop k map
 unfolding markRange
 drop-markRange s i zero map k h = refl
@@ -444,7 +444,7 @@ entries-parts header map entries h m =
     ap (drop itemsOffset) (sym (append-assoc header map entries))
     ∙ drop-at (header ++ map) entries 64 (rw length-append (omega arith))
 
--- where two maps agree from k on, what is behind is the new one's too
+-- where two maps agree from k on, what is after is the new one's too
 splice-past : (k m : ℕ) (old new : List ℕ) → k ≤ m → drop k old ≡ drop k new → take m new ++ drop m old ≡ new
 splice-past k m old new h same =
     let split : k + (m - k) ≡ m = omega arith in

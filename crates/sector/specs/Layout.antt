@@ -76,7 +76,7 @@ mapOf image = field mapOffset 32 image
 abbrev pub entryAt : List ℕ → ℕ → List ℕ
 entryAt image i = field (entryAddress i) entrySize image
 
--- the first n entries of the bytes behind the map
+-- the first n entries of the bytes after the map
 unfoldable pub chunks : ℕ → List ℕ → List (List ℕ)
 chunks zero bytes = []
 chunks (suc n) bytes = take entrySize bytes ∷ chunks n (drop entrySize bytes)

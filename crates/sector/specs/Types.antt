@@ -83,7 +83,7 @@ widthOf BlobData = 0
 widthOf BlobIndex = 0
 widthOf Any = 0
 
--- a payload lies behind the header
+-- a payload lies after the header
 abbrev pub hasPayload : ItemType → Bool
 hasPayload U8 = false
 hasPayload I8 = false

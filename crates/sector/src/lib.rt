@@ -73,7 +73,7 @@ pub enum ItemType {
 }
 
 // What a type byte decides: the type that it names, a primitive's width (0 for other types), and whether a
-// payload lies behind the item's header.
+// payload lies after the item's header.
 pub struct Kind {
     pub named: ItemType,
     pub width: u8,

@@ -1,4 +1,4 @@
--- Laws of counting: entries counted one behind the other, and the states of a map byte by byte.
+-- Laws of counting: entries counted one after the other, and the states of a map byte by byte.
 use mathlib.Core.Path.{_≡_, sym, ap, _∙_}
 use mathlib.Core.Bool.{cond}
 use mathlib.Core.List.{List, [], _∷_, _++_}

@@ -17,7 +17,7 @@ fn decided(named: ItemType, width: u8, payload: bool) -> Kind
 }
 
 // All that a type byte decides (`ItemType::from_repr` and `get_primitive_bytes_width` in one): the type, a
-// primitive's width, and whether a payload lies behind the header. A byte that is none of the thirteen is Any.
+// primitive's width, and whether a payload lies after the header. A byte that is none of the thirteen is Any.
 pub fn kind_of(byte: u8) -> Kind
     ensures { λ r. ⌜ r ≡ kindOf byte ⌝ }
 {

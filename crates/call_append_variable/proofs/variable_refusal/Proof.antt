@@ -19,7 +19,7 @@ use Rattle.call_append.proofs.Laws.{frontChecks}
 use Rattle.call_append_variable.proofs.variable_refusal.Statement.{statement}
 use Rattle.call_append_variable.proofs.variable_refusal.Tie as tie
 
--- those behind the shared ones
+-- those after the shared ones
 abbrev dataChecks : ThinPage → Variable → ℕ → List Check
 dataChecks page item span = variableRequest item ∷ (ltb entriesPerPage span, ValueTooLong) ∷ overFree page span ∷ []
 

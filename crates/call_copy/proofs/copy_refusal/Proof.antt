@@ -29,7 +29,7 @@ module _ (c : tie.After-is-done) where
   recorded : accepted recordChecks ≡ c .is-done .result
   recorded = accepted-done recordChecks refl (c .before .active-refusal .ensures) (c .is-done .ensures)
 
-  -- the record's checks decide, or those behind them
+  -- the record's checks decide, or those after them
   decided : refusal checks ≡ cond (accepted recordChecks) (refusal (drop 4 checks)) (refusal recordChecks)
   decided =
       rw (eq-eqb _ _ (whole .before .if1 .left), eq-eqb _ _ (whole .if2 .left)) (refusal-append recordChecks (drop 4 checks))

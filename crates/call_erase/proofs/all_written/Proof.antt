@@ -28,7 +28,7 @@ module _ (c : tie.After-is-written Inv-loop μ-loop) where
   abbrev i : ℕ
   i = c .before .before .before .loop .i
 
-  -- those behind this entry
+  -- those after this entry
   abbrev behind : Bool
   behind = every (sameState Written) (take (start .args .index + start .args .span - (i + 1)) (drop (i + 1) (statesOf (start .args .map))))
 

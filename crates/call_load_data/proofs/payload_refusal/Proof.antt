@@ -17,7 +17,7 @@ payload-of : (k : Kind) (byte : ℕ) → k ≡ kindOf byte → k .payload ≡ ha
 unfolding kindOf
 payload-of k byte e = ap (λ (k : Kind). k .payload) e
 
--- past the first check a payload lies behind the header
+-- past the first check a payload lies after the header
 payload : (c : tie.Else1) → hasPayload (itemType (typeByteOf (c .before .before .before .args .t1))) ≡ true
 payload c =
     let called = c .before .before in

@@ -1,4 +1,4 @@
--- `crc::crc32` meets its contract: the whole blocks and the tail behind them make up all bytes, and NOT stands before and behind them.
+-- `crc::crc32` meets its contract: the whole blocks and the tail after them make up all bytes, and NOT stands before and after them.
 use mathlib.Core.Path.{sym, ap, ap₂, _∙_}
 use Prim.Native.Nat.{_*_, _/_}
 use native.Mathlib.Omega.{arith}

@@ -1,4 +1,4 @@
--- `crc::intake_tail` meets its contract: a word is its four bytes, and the bytes behind it follow.
+-- `crc::intake_tail` meets its contract: a word is its four bytes, and the bytes after it follow.
 use mathlib.Core.Path.{ap, ap₂, _∙_}
 use Prim.Native.Nat.{ℕ, _≤_}
 use native.Mathlib.Omega.{arith}

@@ -10,7 +10,7 @@ use Rattle.flash.proofs.Laws.{length-units}
 use Rattle.flash.proofs.unit_count.Statement.{statement}
 use Rattle.flash.proofs.unit_count.Tie as tie
 
--- the call looks at what is left behind the whole units
+-- the call looks at what is left after the whole units
 tail-ones : (c : tie.After-all-ones)
     → allOnes (drop (4 * (length (c .before .before .before .args .bytes .now) / 4)) (c .before .before .before .args .bytes .now)) ≡ c .all-ones .result
 tail-ones c =

@@ -1,4 +1,4 @@
--- `page_write::append_refusal` meets its contract: the length is the first check, and the record's checks stand behind it.
+-- `page_write::append_refusal` meets its contract: the length is the first check, and the record's checks stand after it.
 use borrow.Author.Needs.{needs}
 use borrow.Author.Tests.{eq-eqb, ne-eqb}
 use Rattle.page_write.proofs.append_refusal.Statement.{statement}

@@ -1,4 +1,4 @@
--- `page_write::list_after` meets its contract: the place behind the list's length is stored, or none is.
+-- `page_write::list_after` meets its contract: the place after the list's length is stored, or none is.
 use borrow.Author.Needs.{needs}
 use borrow.Author.Tests.{eq-eqb, ne-eqb}
 use Rattle.page_write.proofs.list_after.Statement.{statement}

@@ -12,7 +12,7 @@ use Rattle.sector.proofs.Laws.{over}
 use Rattle.sector_hash.proofs.calculate_hash.Statement.{statement}
 use Rattle.sector_hash.proofs.calculate_hash.Tie as tie
 
--- namespace, key and chunk, one behind the other
+-- namespace, key and chunk, one after the other
 laid : (namespace chunk : ℕ) (key : List ℕ) → length key ≡ 16
     → set (over (namespace ∷ replicate 17 0) 1 key) 17 chunk ≡ namespace ∷ key ++ (chunk ∷ [])
 laid namespace chunk key e = rw (e, set-at key 0 [] chunk 16 e)

@@ -17,7 +17,7 @@ abbrev blankCrc : ℕ → ℕ → ℕ → ℕ → List ℕ → List ℕ → List
 blankCrc namespace kind span chunk key bytes = namespace ∷ kind ∷ span ∷ chunk ∷ 0 ∷ 0 ∷ 0 ∷ 0 ∷ (key ++ bytes)
 
 module _ (namespace kind span chunk : ℕ) (key bytes : List ℕ) (k : length key ≡ 16) (b : length bytes ≡ 8) where
-  -- key and data are laid behind them
+  -- key and data are laid after them
   laid : over (over (namespace ∷ kind ∷ span ∷ chunk ∷ replicate 28 0) 8 key) 24 bytes ≡ blankCrc namespace kind span chunk key bytes
   laid =
       let fits : length (key ++ replicate 8 0) ≤ 24 = simp length-append (omega arith) in

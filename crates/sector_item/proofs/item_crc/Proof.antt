@@ -1,4 +1,4 @@
--- `sector_item::item_crc` meets its contract: the two parts of the entry, laid one behind the other, fill the 28 bytes.
+-- `sector_item::item_crc` meets its contract: the two parts of the entry, laid one after the other, fill the 28 bytes.
 use mathlib.Core.Path.{_≡_, ap, _∙_}
 use mathlib.Core.List.{List, _++_}
 use Prim.Native.Nat.{ℕ}

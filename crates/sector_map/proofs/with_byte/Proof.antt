@@ -1,4 +1,4 @@
--- `with_byte` meets its contract: its four entries are counted one behind the other.
+-- `with_byte` meets its contract: its four entries are counted one after the other.
 use mathlib.Core.Path.{_≡_, ap, _∙_}
 use mathlib.Core.List.{[], _∷_}
 use Prim.Native.Nat.{_%_, _/_}

@@ -1,4 +1,4 @@
--- `page::fit::behind_zero` meets its contract: the places passed are zero, so those behind them decide.
+-- `page::fit::behind_zero` meets its contract: the places passed are zero, so those after them decide.
 use mathlib.Core.Path.{_≡_, refl, sym, _∙_}
 use Prim.Native.Nat.{_-_, _≤_}
 use native.Mathlib.Omega.{arith}

@@ -10,7 +10,7 @@ use Rattle.page.specs.Record.{nextFree, writtenFits, listedFit, behindZe
 use Rattle.page.proofs.fit.fit_to_use.Statement.{statement}
 use Rattle.page.proofs.fit.fit_to_use.Tie as tie
 
--- past the counts the map decides, and what comes behind it
+-- past the counts the map decides, and what comes after it
 past-counts : (c : tie.Else2)
     → let page = c .before .before .before .before .before .args .page in
     fitToUse page ≡ (writtenFits page && (listedFit page && (behindZero page && blankFits page)))

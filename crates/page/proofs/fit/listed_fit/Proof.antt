@@ -1,4 +1,4 @@
--- `page::fit::listed_fit` meets its contract: the places passed fit, so those behind them decide.
+-- `page::fit::listed_fit` meets its contract: the places passed fit, so those after them decide.
 use mathlib.Core.Path.{_≡_, refl, sym, _∙_}
 use mathlib.Core.List.{List}
 use Prim.Native.Nat.{ℕ, _-_, _≤_, _<_}

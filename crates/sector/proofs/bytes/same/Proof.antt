@@ -1,4 +1,4 @@
--- `bytes::same` meets its contract: the bytes passed are the same, so those behind them decide.
+-- `bytes::same` meets its contract: the bytes passed are the same, so those after them decide.
 use mathlib.Core.Path.{_≡_, refl, sym, _∙_}
 use Prim.Native.Nat.{_≤_, _-_}
 use native.Mathlib.Omega.{arith}
