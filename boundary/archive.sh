@@ -49,7 +49,7 @@ fi
 chmod +x "$scratch/toolchain/bin/clang"
 
 set -- --extern "std=$host/rlib/std.rlib"
-for crate in $(sed -n 's/^boundary: *//p' crates.txt); do
+for crate in $(sed -n 's/#.*//; s/^boundary: *//p' crates.txt); do
     set -- "$@" --extern "$crate=$PWD/target/rlib/$crate.rlib"
 done
 "$host/bin/rattle" build --crate-name boundary crates/boundary/src/lib.rt "$@" \

@@ -4,7 +4,7 @@
  * In order: sizes; the numbers that come back; the record and the answer; the calls, leaves first.
  *
  * A slice is a pointer and its length. Every function is total: any bytes, any lengths. What is left to the caller is
- * what no code behind a pointer can check: each pointer is good for its length, and two slices of which one is written
+ * what no code can check of a pointer: each pointer is good for its length, and two slices of which one is written
  * do not overlap.
  *
  * Link the archive that `boundary/archive.sh OUT.a` makes for the processor at hand. On x86-64 Linux it is
@@ -38,7 +38,7 @@ extern "C" {
 /* an image is not 4,096 bytes */
 #define NVS_BAD_IMAGE 1
 /* the record is not fit to use: counts over 126, a list longer than the entries in use, more entries Written than used,
-   a listed index over 125 or a hash over 24 bits, bytes behind the list, or an Uninitialized record that is not blank */
+   a listed index over 125 or a hash over 24 bits, bytes after the list, or an Uninitialized record that is not blank */
 #define NVS_BAD_RECORD 2
 /* append, copy, mark full: the page is not Active; erase: not Active, Full or Freeing; initialise: not Uninitialized */
 #define NVS_WRONG_STATE 3

@@ -39,7 +39,7 @@ fn run(case: &Case) -> (String, String) {
     let past_page: Vec<&Unit> = oracle.units().iter().filter(|unit| unit.address >= 4096).collect();
     let mut text = told(case, &rusts);
     if let Some(first) = past_page.first() {
-        text += &format!("; {} units behind the page, the first at byte {}", past_page.len(), first.address);
+        text += &format!("; {} units past the page, the first at byte {}", past_page.len(), first.address);
     }
     (text, told(case, &ours))
 }

@@ -16,7 +16,7 @@ pub fn is_known(type_byte: u8) -> bool {
     type_byte == ANY || is_single(type_byte) || PAYLOADS.contains(&type_byte)
 }
 
-/// 'Fit to use', in 01's order. The places behind the list's length are zero by the encoding.
+/// 'Fit to use', in 01's order. The places after the list's length are zero by the encoding.
 pub fn is_fit(record: &Record) -> bool {
     let listed_fit = |place: &Listed| (place.index as usize) < ENTRIES && place.hash < 1 << 24;
     let blank = *record == Record::default();

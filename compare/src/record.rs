@@ -71,7 +71,7 @@ impl Record {
         (0..ENTRIES).filter(|&index| self.mark(index) == WRITTEN).count()
     }
 
-    /// Little endian, no gaps; the places behind the list's length are zero. Of a longer list than a record has, which
+    /// Little endian, no gaps; the places after the list's length are zero. Of a longer list than a record has, which
     /// only the Rust makes, the places past 126 are left out.
     pub fn encode(&self, bytes: &mut [u8; RECORD]) {
         bytes[0] = self.state;
@@ -82,15 +82,15 @@ impl Record {
         bytes[42] = self.used;
         bytes[43] = self.erased;
         bytes[44] = self.list.len() as u8;
-        let (places, behind) = bytes[45..].split_at_mut(5 * self.list.len().min(ENTRIES));
+        let (places, unused) = bytes[45..].split_at_mut(5 * self.list.len().min(ENTRIES));
         for (place, listed) in places.as_chunks_mut::<5>().0.iter_mut().zip(&self.list) {
             place[..4].copy_from_slice(&listed.hash.to_le_bytes());
             place[4] = listed.index;
         }
-        behind.fill(0);
+        unused.fill(0);
     }
 
-    /// The record that these bytes are, whose places behind the list are zero.
+    /// The record that these bytes are, whose places after the list are zero.
     pub fn decode(bytes: &[u8; RECORD]) -> Record {
         let word = |at: usize| u32::from_le_bytes([bytes[at], bytes[at + 1], bytes[at + 2], bytes[at + 3]]);
         let place = |at: usize| Listed { hash: word(at), index: bytes[at + 4] };

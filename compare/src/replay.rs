@@ -50,8 +50,8 @@ impl Replay {
     /// Every frame in turn, up to the end frame.
     fn run(&mut self, mut rest: &[u8], cases: u32) -> Result<(), &'static str> {
         loop {
-            let (frame, behind) = rest.split_at_checked(FRAME).ok_or(CUT_SHORT)?;
-            rest = behind;
+            let (frame, after) = rest.split_at_checked(FRAME).ok_or(CUT_SHORT)?;
+            rest = after;
             match frame[0] {
                 END if self.open => return Err(OUT_OF_ORDER),
                 END if !rest.is_empty() => return Err(BEHIND),

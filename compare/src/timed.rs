@@ -53,7 +53,7 @@ pub fn rusts(case: &Case) -> f64 {
     }
 }
 
-/// The page's sector, and behind it the source's.
+/// The page's sector, and after it the source's.
 fn flash_of(case: &Case) -> MemFlash {
     MemFlash::from_bytes([case.image, case.source].concat())
 }

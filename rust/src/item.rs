@@ -2,7 +2,7 @@
 
 use crate::ITEM_SIZE;
 
-/// 16 bytes: up to 15 of a name, and zeros behind.
+/// 16 bytes: up to 15 of a name, and zeros after them.
 pub type Key = [u8; 16];
 
 /// The chunk index of an item that is no chunk of a blob.

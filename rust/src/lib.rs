@@ -327,7 +327,7 @@ pub fn erase(image: &mut [u8], record: &mut Record, index: usize, span: usize) -
     done(unsafe { sys::nvs_erase(image.as_mut_ptr(), image.len(), bytes.as_mut_ptr(), bytes.len(), index, span) })
 }
 
-/// Zeroes the bytes of entries, at least one and none behind the page; from index 126 on nothing.
+/// Zeroes the bytes of entries, at least one and none past the page; from index 126 on nothing.
 ///
 /// BadImage.
 pub fn purge(image: &mut [u8], index: usize, span: usize) -> Result<(), Refusal> {

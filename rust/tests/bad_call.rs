@@ -114,7 +114,7 @@ fn refusals_leave_zeros() {
     assert_eq!((buffers.answer[0], &buffers.answer[1..]), (0x21, &[0; 56][..]));
 }
 
-/// A state byte over 5 is BadRecord, behind BadImage, and stays where it was.
+/// A state byte over 5 is BadRecord, after BadImage, and stays where it was.
 #[test]
 fn no_state_is_a_bad_record() {
     for state in [6, 255] {
