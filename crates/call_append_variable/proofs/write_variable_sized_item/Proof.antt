@@ -66,12 +66,5 @@ pub write-variable-sized-item-spec : {M : Type 1} → statement M
 write-variable-sized-item-spec =
     tie.close
     (tie.spec
-    (λ c κs. search needs)
-    (λ c κs. search needs)
-    (λ c. search needs)
-    returns
-    with-variable-requires
-    write-variable-requires
-    (λ c κs. search needs)
-    (λ c. search needs)
-    returns-2)
+    (λ c κs. search needs) (λ c κs. search needs) (λ c. search needs) returns with-variable-requires write-variable-requires
+    (λ c κs. search needs) (λ c. search needs) returns-2)

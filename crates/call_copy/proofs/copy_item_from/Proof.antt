@@ -158,24 +158,7 @@ pub copy-item-from-spec : {M : Type 1} → statement M
 copy-item-from-spec =
     tie.close
     (tie.spec
-    (λ c κs. search needs)
-    (λ c κs. search needs)
-    (λ c. search needs)
-    returns
-    entry-at-requires
-    (λ c. search needs)
-    (λ c. search needs)
-    (λ c κs. search needs)
-    (λ c. search needs)
-    with-item-requires
-    (λ c κs. search needs)
-    entry-address-requires
-    add-entry-address
-    entry-address-requires-2
-    (λ c. search needs)
-    (λ c. search needs)
-    part-write-entries-end
-    write-entries-requires
-    (λ c κs. search needs)
-    (λ c. search needs)
-    returns-2)
+    (λ c κs. search needs) (λ c κs. search needs) (λ c. search needs) returns entry-at-requires (λ c. search needs)
+    (λ c. search needs) (λ c κs. search needs) (λ c. search needs) with-item-requires (λ c κs. search needs)
+    entry-address-requires add-entry-address entry-address-requires-2 (λ c. search needs) (λ c. search needs)
+    part-write-entries-end write-entries-requires (λ c κs. search needs) (λ c. search needs) returns-2)

@@ -61,12 +61,5 @@ pub copy-refusal-spec : {M : Type 1} → statement M
 copy-refusal-spec =
     tie.close
     (tie.spec
-    returns
-    returns-2
-    (λ c κs. search needs)
-    (λ c κs. search needs)
-    returns-3
-    returns-4
-    (λ c κs. search needs)
-    (λ c κs. search needs)
-    returns-5)
+    returns returns-2 (λ c κs. search needs) (λ c κs. search needs) returns-3 returns-4 (λ c κs. search needs)
+    (λ c κs. search needs) returns-5)

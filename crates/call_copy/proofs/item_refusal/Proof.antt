@@ -48,13 +48,5 @@ pub item-refusal-spec : {M : Type 1} → statement M
 item-refusal-spec =
     tie.close
     (tie.spec
-    (λ c κs. search needs)
-    returns
-    (λ c. search needs)
-    (λ c. search needs)
-    returns-2
-    (λ c. search needs)
-    returns-3
-    (λ c κs. search needs)
-    returns-4
-    returns-5)
+    (λ c κs. search needs) returns (λ c. search needs) (λ c. search needs) returns-2 (λ c. search needs) returns-3
+    (λ c κs. search needs) returns-4 returns-5)

@@ -70,11 +70,5 @@ pub erase-item-spec : {M : Type 1} → statement M
 erase-item-spec =
     tie.close
     (tie.spec
-    (λ c κs. search needs)
-    (λ c κs. search needs)
-    (λ c. search needs)
-    returns
-    with-erased-requires
-    write-marks-requires
-    (λ c. search needs)
-    returns-2)
+    (λ c κs. search needs) (λ c κs. search needs) (λ c. search needs) returns with-erased-requires write-marks-requires
+    (λ c. search needs) returns-2)

@@ -46,11 +46,4 @@ pub with-erased-spec : {M : Type 1} → statement M
 with-erased-spec =
     tie.close
     (tie.spec
-    (λ c κs. search needs)
-    (λ c. search needs)
-    without-requires
-    (λ c. search needs)
-    sub-t13
-    (λ c. search needs)
-    add-t15
-    returns)
+    (λ c κs. search needs) (λ c. search needs) without-requires (λ c. search needs) sub-t13 (λ c. search needs) add-t15 returns)

@@ -77,15 +77,5 @@ pub load-item-spec : {M : Type 1} → statement M
 load-item-spec =
     tie.close
     (tie.spec
-    (λ c κs. search needs)
-    (λ c κs. search needs)
-    (λ c κs. search needs)
-    returns
-    entry-at-requires
-    (λ c. search needs)
-    (λ c κs. search needs)
-    (λ c. search needs)
-    loads-at-requires
-    (λ c κs. search needs)
-    returns-2
-    returns-3)
+    (λ c κs. search needs) (λ c κs. search needs) (λ c κs. search needs) returns entry-at-requires (λ c. search needs)
+    (λ c κs. search needs) (λ c. search needs) loads-at-requires (λ c κs. search needs) returns-2 returns-3)

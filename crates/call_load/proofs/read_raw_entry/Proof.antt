@@ -46,9 +46,4 @@ pub read-raw-entry-spec : {M : Type 1} → statement M
 read-raw-entry-spec =
     tie.close
     (tie.spec
-    (λ c κs. search needs)
-    (λ c κs. search needs)
-    (λ c κs. search needs)
-    returns
-    entry-at-requires
-    returns-2)
+    (λ c κs. search needs) (λ c κs. search needs) (λ c κs. search needs) returns entry-at-requires returns-2)

@@ -47,13 +47,5 @@ pub copy-to-spec : {M : Type 1} → statement M
 copy-to-spec =
     tie.close
     (tie.spec
-    Inv-loop
-    μ-loop
-    (λ c. search needs)
-    (λ c. search needs)
-    slice-write-output
-    (λ c. search needs)
-    (λ c. search needs)
-    loop-again
-    same-length
-    returns)
+    Inv-loop μ-loop (λ c. search needs) (λ c. search needs) slice-write-output (λ c. search needs) (λ c. search needs) loop-again
+    same-length returns)

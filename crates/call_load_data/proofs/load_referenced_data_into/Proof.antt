@@ -174,20 +174,6 @@ pub load-referenced-data-into-spec : {M : Type 1} → statement M
 load-referenced-data-into-spec =
     tie.close
     (tie.spec
-    (λ c κs. search needs)
-    (λ c κs. search needs)
-    returns
-    payload-refusal-requires
-    (λ c κs. search needs)
-    returns-2
-    (λ c κs. search needs)
-    add-entry-address
-    entry-address-requires
-    (λ c κs. search needs)
-    add-end
-    (λ c. search needs)
-    (λ c. search needs)
-    part-copy-to-end
-    copy-to-requires
-    (λ c. search needs)
-    returns-3)
+    (λ c κs. search needs) (λ c κs. search needs) returns payload-refusal-requires (λ c κs. search needs) returns-2
+    (λ c κs. search needs) add-entry-address entry-address-requires (λ c κs. search needs) add-end (λ c. search needs)
+    (λ c. search needs) part-copy-to-end copy-to-requires (λ c. search needs) returns-3)

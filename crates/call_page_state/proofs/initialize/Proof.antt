@@ -81,15 +81,5 @@ pub initialize-spec : {M : Type 1} → statement M
 initialize-spec =
     tie.close
     (tie.spec
-    (λ c κs. search needs)
-    (λ c κs. search needs)
-    (λ c. search needs)
-    returns
-    (λ c κs. search needs)
-    (λ c. search needs)
-    write-aligned-requires
-    (λ c κs. search needs)
-    initialized-requires
-    (λ c κs. search needs)
-    (λ c. search needs)
-    returns-2)
+    (λ c κs. search needs) (λ c κs. search needs) (λ c. search needs) returns (λ c κs. search needs) (λ c. search needs)
+    write-aligned-requires (λ c κs. search needs) initialized-requires (λ c κs. search needs) (λ c. search needs) returns-2)

@@ -55,11 +55,5 @@ pub mark-as-full-spec : {M : Type 1} → statement M
 mark-as-full-spec =
     tie.close
     (tie.spec
-    (λ c κs. search needs)
-    (λ c κs. search needs)
-    (λ c. search needs)
-    returns
-    write-full-requires
-    (λ c κs. search needs)
-    (λ c. search needs)
-    returns-2)
+    (λ c κs. search needs) (λ c κs. search needs) (λ c. search needs) returns write-full-requires (λ c κs. search needs)
+    (λ c. search needs) returns-2)

@@ -32,11 +32,5 @@ pub crc32-spec : {M : Type 1} → statement M
 crc32-spec =
     tie.close
     (tie.spec
-    (λ c. search needs)
-    slice-aggregate-intake-blocks
-    intake-blocks-requires
-    (λ c. search needs)
-    (λ c. search needs)
-    (λ c. search needs)
-    (λ c κs. search needs)
-    returns)
+    (λ c. search needs) slice-aggregate-intake-blocks intake-blocks-requires (λ c. search needs) (λ c. search needs)
+    (λ c. search needs) (λ c κs. search needs) returns)

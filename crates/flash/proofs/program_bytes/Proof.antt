@@ -77,16 +77,5 @@ pub program-bytes-spec : {M : Type 1} → statement M
 program-bytes-spec =
     tie.close
     (tie.spec
-    Inv-loop
-    μ-loop
-    loop-holds
-    add-image
-    slice-read-image
-    shared-slice-read-image
-    add-image-2
-    slice-write-image
-    add-i
-    loop-less
-    loop-again
-    same-length
-    returns)
+    Inv-loop μ-loop loop-holds add-image slice-read-image shared-slice-read-image add-image-2 slice-write-image add-i loop-less
+    loop-again same-length returns)

@@ -46,9 +46,5 @@ pub write-aligned-spec : {M : Type 1} → statement M
 write-aligned-spec =
     tie.close
     (tie.spec
-    (λ c κs. search needs)
-    slice-aggregate-program-bytes
-    program-bytes-requires
-    (λ c κs. search needs)
-    (λ c. search needs)
+    (λ c κs. search needs) slice-aggregate-program-bytes program-bytes-requires (λ c κs. search needs) (λ c. search needs)
     returns)

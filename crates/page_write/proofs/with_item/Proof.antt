@@ -35,13 +35,5 @@ pub with-item-spec : {M : Type 1} → statement M
 with-item-spec =
     tie.close
     (tie.spec
-    (λ c κs. search needs)
-    (λ c. search needs)
-    (λ c κs. search needs)
-    (λ c κs. search needs)
-    (λ c. search needs)
-    list-after-requires
-    len-after-requires
-    (λ c. search needs)
-    (λ c. search needs)
-    returns)
+    (λ c κs. search needs) (λ c. search needs) (λ c κs. search needs) (λ c κs. search needs) (λ c. search needs)
+    list-after-requires len-after-requires (λ c. search needs) (λ c. search needs) returns)

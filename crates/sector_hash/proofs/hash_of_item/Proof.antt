@@ -11,8 +11,4 @@ pub hash-of-item-spec : {M : Type 1} → statement M
 hash-of-item-spec =
     tie.close
     (tie.spec
-    (λ c κs. search needs)
-    (λ c. search needs)
-    (λ c. search needs)
-    (λ c κs. search needs)
-    returns)
+    (λ c κs. search needs) (λ c. search needs) (λ c. search needs) (λ c κs. search needs) returns)

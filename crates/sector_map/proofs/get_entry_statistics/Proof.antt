@@ -70,15 +70,5 @@ pub get-entry-statistics-spec : {M : Type 1} → statement M
 get-entry-statistics-spec =
     tie.close
     (tie.spec
-    Inv-loop
-    μ-loop
-    loop-holds
-    (λ c. search needs)
-    with-byte-requires
-    (λ c. search needs)
-    (λ c. search needs)
-    loop-again
-    (λ c. search needs)
-    with-entry-requires
-    with-entry-requires-2
-    returns)
+    Inv-loop μ-loop loop-holds (λ c. search needs) with-byte-requires (λ c. search needs) (λ c. search needs) loop-again
+    (λ c. search needs) with-entry-requires with-entry-requires-2 returns)

@@ -60,8 +60,4 @@ pub with-byte-spec : {M : Type 1} → statement M
 with-byte-spec =
     tie.close
     (tie.spec
-    (λ c κs. search needs)
-    with-entry-requires-2
-    with-entry-requires-3
-    with-entry-requires-4
-    returns)
+    (λ c κs. search needs) with-entry-requires-2 with-entry-requires-3 with-entry-requires-4 returns)

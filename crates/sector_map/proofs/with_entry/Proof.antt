@@ -31,12 +31,5 @@ pub with-entry-spec : {M : Type 1} → statement M
 with-entry-spec =
     tie.close
     (tie.spec
-    (λ c κs. search needs)
-    add-t4
-    (λ c κs. search needs)
-    add-t6
-    (λ c κs. search needs)
-    add-t8
-    (λ c κs. search needs)
-    add-t10
+    (λ c κs. search needs) add-t4 (λ c κs. search needs) add-t6 (λ c κs. search needs) add-t8 (λ c κs. search needs) add-t10
     returns)

@@ -75,11 +75,4 @@ pub is-blank-spec : {M : Type 1} → statement M
 is-blank-spec =
     tie.close
     (tie.spec
-    returns
-    returns-2
-    returns-3
-    returns-4
-    returns-5
-    returns-6
-    (λ c κs. search needs)
-    returns-7)
+    returns returns-2 returns-3 returns-4 returns-5 returns-6 (λ c κs. search needs) returns-7)
