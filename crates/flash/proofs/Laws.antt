@@ -1,78 +1,23 @@
 -- Laws of programming (specs/Flash.antt).
 --
--- In order: lists; bytes below 256; two tests, and tests of a whole list; bytes at an address; new bytes that only clear bits; the units of a write;
--- units done one after the other; where units lie, and what they leave alone.
-use mathlib.Core.Path.{_≡_, refl, sym, ap, ap₂, _∙_}
-use mathlib.Core.Bool.{Bool, true, false, _&&_, _||_, cond, false≢true, and-eq-true-iff, and-assoc}
+-- In order: tests of a whole list; bytes at an address; new bytes that only clear bits; the units of a write;
+-- units done one after the other; where units lie, and what they leave alone. The laws of lists and numbers (Lists) are passed on.
+use mathlib.Core.Path.{_≡_, refl, sym, ap, _∙_}
+use mathlib.Core.Bool.{Bool, true, false, _&&_, cond, false≢true, and-eq-true-iff}
 use mathlib.Core.List.{List, [], _∷_, _++_, append-assoc}
 use mathlib.Core.Logic.{_⊎_, inl, inr}
-use Prim.Native.Nat.{ℕ, zero, suc, _≤_, _<_, _+_, _-_, _*_, _/_, _%_, min, zero-le, suc-le-suc}
-use native.Mathlib.Nat.{le-of-suc-le-suc, lt-of-le-of-lt, mod-eq-of-lt, zero-add, suc-add, add-zero, sub-zero}
+use Prim.Native.Nat.{ℕ, zero, suc, _≤_, _<_, _+_, _-_, _*_, _/_, _%_}
+use native.Mathlib.Nat.{le-of-suc-le-suc, lt-of-le-of-lt, zero-add, suc-add, add-zero}
 use native.Mathlib.Omega.{arith}
-use lib.Arith.{bin-ind}
-use lib.Bits.{bitAnd, and-mask, and-le-l, and-le-r, and-comm, and-self, and-step}
-use lib.ListN.{length, take, drop, getD, set, replicate, replicate-append-replicate, take-append-drop, drop-of-length-le}
-use lib.Seq.{take-nil, take-append-seam, drop-cons}
+use lib.Bits.{bitAnd, and-le-l, and-le-r, and-comm, and-self}
+use lib.ListN.{length, take, drop, getD, set, replicate, replicate-append-replicate, take-append-drop}
+use lib.Seq.{take-nil, take-append-seam}
 use borrow.Author.Tests.{eqb-true, eq-eqb, ne-eqb}
-use Rattle.flash.specs.Flash.{every, isOnes, allOnes, program, Unit4, unit, tailUnits, units, run}
+pub use Rattle.flash.proofs.Lists.{take-append, Bytes, bytes-nil, bytes-cons, bytes-of-getD, bytes-append, bytes-take, bytes-drop, bytes-ones, neither, every-append, every-drop, every-past, four-suc, and-ones, bit-and-assoc}
+use Rattle.flash.proofs.Lists.{four-more}
+use Rattle.flash.specs.Flash.{isOnes, allOnes, program, Unit4, unit, tailUnits, units, run}
 
--- ---- lists
-
-pub take-append : {A : Type 0} (n : ℕ) (xs ys : List A) → take n (xs ++ ys) ≡ take n xs ++ take (n - length xs) ys
-take-append n [] ys = rw (take-nil n, sub-zero n)
-take-append zero (x ∷ xs) ys = let e : 0 - suc (length xs) ≡ 0 = omega arith in rw e
-take-append (suc n) (x ∷ xs) ys =
-    let e : suc n - suc (length xs) ≡ n - length xs = omega arith in
-    rw e (ap (λ (rest : List _). x ∷ rest) (take-append n xs ys))
-
--- ---- bytes below 256
-
-pub data Bytes : List ℕ → Type 0 where
-  bytes-nil : Bytes []
-  bytes-cons : {byte : ℕ} {bytes : List ℕ} → byte < 256 → Bytes bytes → Bytes (byte ∷ bytes)
-
--- of a slice, each of whose elements is known to fit a byte
-pub bytes-of-getD : (bytes : List ℕ) → ((i : ℕ) → i < length bytes → getD bytes i 0 < 256) → Bytes bytes
-bytes-of-getD [] h = bytes-nil
-bytes-of-getD (byte ∷ bytes) h = bytes-cons (h zero (suc-le-suc zero-le)) (bytes-of-getD bytes (λ i l. h (suc i) (suc-le-suc l)))
-
-pub bytes-append : {xs ys : List ℕ} → Bytes xs → Bytes ys → Bytes (xs ++ ys)
-bytes-append bytes-nil b = b
-bytes-append (bytes-cons h a) b = bytes-cons h (bytes-append a b)
-
-pub bytes-take : {bytes : List ℕ} (n : ℕ) → Bytes bytes → Bytes (take n bytes)
-bytes-take zero b = bytes-nil
-bytes-take (suc n) bytes-nil = bytes-nil
-bytes-take (suc n) (bytes-cons h b) = bytes-cons h (bytes-take n b)
-
-pub bytes-drop : {bytes : List ℕ} (n : ℕ) → Bytes bytes → Bytes (drop n bytes)
-bytes-drop zero b = b
-bytes-drop (suc n) bytes-nil = bytes-nil
-bytes-drop (suc n) (bytes-cons h b) = bytes-drop n b
-
-pub bytes-ones : (n : ℕ) → Bytes (replicate n 0xFF)
-bytes-ones zero = bytes-nil
-bytes-ones (suc n) = bytes-cons {byte = 0xFF} (omega arith) (bytes-ones n)
-
--- ---- two tests; tests of a whole list
-
--- neither of two holds
-pub neither : (a b : Bool) → (a || b) ≡ false → (a ≡ false) × (b ≡ false)
-neither true b h = absurd (false≢true (sym h))
-neither false b h = (refl, h)
-
-pub every-append : {A : Type 0} (test : A → Bool) (xs ys : List A) → every test (xs ++ ys) ≡ (every test xs && every test ys)
-every-append test [] ys = refl
-every-append test (x ∷ xs) ys = ap (λ (rest : Bool). test x && rest) (every-append test xs ys) ∙ sym (and-assoc (test x) (every test xs) (every test ys))
-
--- a loop's turn
-pub every-drop : {A : Type 0} (test : A → Bool) (xs : List A) (i : ℕ) (d : A) → i < length xs
-    → every test (drop i xs) ≡ (test (getD xs i d) && every test (drop (suc i) xs))
-every-drop test xs i d h = ap (every test) (drop-cons xs i d h)
-
--- a loop's end
-pub every-past : {A : Type 0} (test : A → Bool) (xs : List A) (i : ℕ) → length xs ≤ i → every test (drop i xs) ≡ true
-every-past test xs i h = ap (every test) (drop-of-length-le xs h)
+-- ---- tests of a whole list
 
 pub all-ones-drop : (bytes : List ℕ) (i : ℕ) → i < length bytes → allOnes (drop i bytes) ≡ (isOnes (getD bytes i 0) && allOnes (drop (suc i) bytes))
 unfolding allOnes
@@ -190,9 +135,6 @@ bytes-program zero [] (bytes-cons h b) = bytes-cons h b
 bytes-program zero (new ∷ bytes) (bytes-cons {byte = old} h b) = bytes-cons (lt-of-le-of-lt (and-le-l old new) h) (bytes-program zero bytes b)
 bytes-program (suc address) bytes (bytes-cons h b) = bytes-cons h (bytes-program address bytes b)
 
-pub and-ones : (byte : ℕ) → byte < 256 → bitAnd byte 0xFF ≡ byte
-and-ones byte h = and-mask byte 8 ∙ mod-eq-of-lt h
-
 -- 0xFF leaves what is there
 pub program-ones : {image : List ℕ} (address n : ℕ) → Bytes image → program image address (replicate n 0xFF) ≡ image
 unfolding program
@@ -208,24 +150,6 @@ program-padded {image} address bytes n b =
     program-append image address bytes (replicate n 0xFF) ∙ program-ones (address + length bytes) n (bytes-program address bytes b)
 
 -- ---- new bytes that only clear bits
-
-and-half : (a b : ℕ) → bitAnd a b / 2 ≡ bitAnd (a / 2) (b / 2)
-and-half a b = omega (arith, and-step a b)
-
-and-odd : (a b : ℕ) → bitAnd a b % 2 ≡ min (a % 2) (b % 2)
-and-odd a b = omega (arith, and-step a b)
-
-min-assoc : (a b c : ℕ) → min (min a b) c ≡ min a (min b c)
-min-assoc a b c = omega arith
-
-pub bit-and-assoc : (a b c : ℕ) → bitAnd (bitAnd a b) c ≡ bitAnd a (bitAnd b c)
-bit-and-assoc a =
-    bin-ind (λ (n : ℕ). (b c : ℕ) → bitAnd (bitAnd n b) c ≡ bitAnd n (bitAnd b c)) (λ b c. refl)
-    (λ n half b c. and-step (bitAnd n b) c
-    ∙ ap₂ (λ (x y : ℕ). x * 2 + y)
-    (ap (λ (x : ℕ). bitAnd x (c / 2)) (and-half n b) ∙ half (b / 2) (c / 2) ∙ ap (bitAnd (n / 2)) (sym (and-half b c)))
-    (ap (λ (x : ℕ). min x (c % 2)) (and-odd n b) ∙ min-assoc (n % 2) (b % 2) (c % 2) ∙ ap (min (n % 2)) (sym (and-odd b c)))
-    ∙ sym (and-step n (bitAnd b c))) a
 
 -- no bit of the new bytes is set that is clear in the old
 pub data OnlyClears : List ℕ → List ℕ → Type 0 where
@@ -304,12 +228,6 @@ program-erased {bytes} n front rest b h =
     (program-over front (replicate left 0xFF ++ rest) (clears-ones b))
 
 -- ---- the units of a write
-
-pub four-suc : (n : ℕ) → 4 * suc n ≡ suc (suc (suc (suc (4 * n))))
-four-suc n = omega arith
-
-four-more : (n : ℕ) → suc (suc (suc (suc n))) / 4 ≡ suc (n / 4)
-four-more n = omega arith
 
 length-tail : (u : Unit4) (blank : Bool) → length (cond blank [] (u ∷ [])) ≡ 0 + cond blank 0 1
 length-tail u true = refl

@@ -4,15 +4,15 @@ use mathlib.Core.Path.{_≡_, refl, sym, ap, _∙_}
 use mathlib.Core.Bool.{Bool, true, false, _&&_, not, cond, and-false, and-eq-true-iff, false≢true}
 use mathlib.Core.List.{List, [], _∷_, _++_, append-nil}
 use Prim.Native.Nat.{ℕ, zero, suc, _+_, _-_, _*_, _/_, _%_, _^_, _<_, _≤_}
-use native.Mathlib.Nat.{zero-add, le-of-suc-le-suc, not-suc-le-zero, div-one, div-lt-iff-lt-mul, pow-suc, pow-succ', sub-zero}
+use native.Mathlib.Nat.{le-of-suc-le-suc, not-suc-le-zero, div-one, div-lt-iff-lt-mul, pow-suc}
 use native.Mathlib.Numerals.{add-one}
 use native.Mathlib.Omega.{arith}
-use lib.ListN.{length, getD, set, take, drop, replicate, length-append, length-take, length-drop, length-set, drop-of-length-le}
-use lib.Pow.{pow-add}
+use lib.ListN.{length, getD, take, drop, length-append, length-take, length-drop, length-set, drop-of-length-le}
 use lib.Dec.{eqb}
-use lib.Seq.{drop-cons, drop-length, drop-drop, take-take, take-at, getD-take, paste-suc}
+use lib.Seq.{drop-cons, drop-length, drop-drop, take-take, take-at, getD-take}
 use borrow.Author.Tests.{eq-eqb, ne-eqb, not-true}
 use Rattle.flash.specs.Flash.{every}
+pub use Rattle.flash.proofs.Lists.{drop-replicate, copied-next, pow-four}
 use Rattle.sector.specs.declared.Answer.{Answer}
 use Rattle.sector.specs.declared.Answer.the-variants.{Done}
 use Rattle.sector.specs.declared.EntryMapState.{EntryMapState}
@@ -123,19 +123,6 @@ over-both out first second n e h =
     let fits : length (first ++ rest) ≤ n + length second = simp (length-append, length-drop) (omega arith) in
     rw (take-at first rest n e, drop-of-length-le (first ++ rest) fits, append-nil second)
 
-pub drop-replicate : {A : Type 0} (k n : ℕ) (x : A) → drop k (replicate n x) ≡ replicate (n - k) x
-drop-replicate zero n x = rw (sub-zero n)
-drop-replicate (suc k) zero x = let none : 0 - suc k ≡ 0 = omega arith in rw none
-drop-replicate (suc k) (suc n) x =
-    let less : n - k ≡ suc n - suc k = omega arith in drop-replicate k n x ∙ ap (λ (m : ℕ). replicate m x) less
-
--- k bytes of a part are in, and the next one is stored
-pub copied-next : (part into : List ℕ) (k : ℕ) → k < length part → k < length into
-    → set (take k part ++ drop k into) k (getD part k 0) ≡ take (k + 1) part ++ drop (k + 1) into
-copied-next part into k inside room =
-    let place : 0 + k < length into = omega arith in
-    rw (add-one k) (rw (zero-add k, zero-add (suc k)) at (paste-suc into 0 part k 0 place inside))
-
 -- ---- checks
 
 abbrev pub isDone : Answer → Bool
@@ -205,13 +192,6 @@ bits-le Empty = omega arith
 bits-le Written = omega arith
 bits-le Erased = omega arith
 bits-le Illegal = omega arith
-
--- a shift by two bits for each pair passed
-pub pow-four : (k : ℕ) → 2 ^ (2 * k) ≡ 4 ^ k
-pow-four zero = refl
-pow-four (suc k) =
-    let more : 2 * suc k ≡ 2 + 2 * k = omega arith in
-    ap (λ (n : ℕ). 2 ^ n) more ∙ pow-add 2 2 (2 * k) ∙ ap (λ (n : ℕ). 4 * n) (pow-four k) ∙ sym (pow-succ' 4 k)
 
 -- ---- all states
 
