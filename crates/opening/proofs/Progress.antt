@@ -24,6 +24,7 @@ use Rattle.opening.specs.declared.Listing.{Listing}
 use Rattle.opening_reading.specs.declared.Verdict.{Verdict}
 use Rattle.opening_reading.specs.declared.Verdict.the-variants.{NotAnItem, RefusedEntry, RefusedItem, Kept}
 use Rattle.opening_reading.specs.Reading.{Item, isUsable, usable, verdictAt, stepsOver, markOf, markBehind, walk, withKept, keptFrom}
+use Rattle.opening_marks.specs.Marks.{HasStates}
 use Rattle.opening.specs.Opening.{isRefusedItem, refusedHeaders, listedItems}
 use Rattle.opening.specs.Steps.{markedBy, listingOf, withListed, listedBy}
 use Rattle.opening_reading.proofs.Entries.{states-from, entries-from}
@@ -77,6 +78,19 @@ module _ (image map : List ℕ) (i : ℕ) (long : length map ≡ 32) (inside : i
   steps-entries = rw entries-behind (omega (arith, steps-inside))
 
   -- ---- one step of each list, from what is left at this index
+
+  -- what is read of the states and entries from here on begins with these
+  here : {A : Type 0} (reads : List EntryMapState → List (List ℕ) → A)
+      → reads (drop i (statesOf map)) (drop i (entriesOf image))
+      ≡ reads (stateAt map i ∷ drop (i + 1) (statesOf map)) (entryAt image i ∷ drop (i + 1) (entriesOf image))
+  here reads = ap₂ reads (states-from map i long inside) (entries-from image i inside)
+
+  -- and goes on after those that are stepped over
+  after : {A : Type 0} (reads : List EntryMapState → List (List ℕ) → A) (k : ℕ)
+      → reads (drop k (drop (i + 1) (statesOf map))) (drop k (drop (i + 1) (entriesOf image)))
+      ≡ reads (drop (i + 1 + k) (statesOf map)) (drop (i + 1 + k) (entriesOf image))
+  after reads k = ap₂ reads (drop-drop k (i + 1) (statesOf map)) (drop-drop k (i + 1) (entriesOf image))
+
   walk-from :
       let v = verdictOf image map i in
       walk zero Erased (drop i (statesOf map)) (drop i (entriesOf image))
@@ -84,13 +98,10 @@ module _ (image map : List ℕ) (i : ℕ) (long : length map ≡ 32) (inside : i
       ++ walk zero Erased (drop (i + 1 + stepsOver v) (statesOf map)) (drop (i + 1 + stepsOver v) (entriesOf image))
   walk-from =
       let v = verdictOf image map i in
-      let states = drop (i + 1) (statesOf map) in
-      let entries = drop (i + 1) (entriesOf image) in
-      ap₂ (λ (ss : List EntryMapState) (es : List (List ℕ)). walk zero Erased ss es) (states-from image map i long inside) (entries-from image map i long inside)
+      here (walk zero Erased)
       ∙ ap (λ (rest : List EntryMapState). markOf (stateAt map i) v ∷ rest)
-      (walk-skip (stepsOver v) (markBehind v) states entries steps-states steps-entries
-      ∙ ap₂ (λ (ss : List EntryMapState) (es : List (List ℕ)). replicate (stepsOver v) (markBehind v) ++ walk zero Erased ss es)
-      (drop-drop (stepsOver v) (i + 1) (statesOf map)) (drop-drop (stepsOver v) (i + 1) (entriesOf image)))
+      (walk-skip (stepsOver v) (markBehind v) (drop (i + 1) (statesOf map)) (drop (i + 1) (entriesOf image)) steps-states steps-entries
+      ∙ after (λ ss es. replicate (stepsOver v) (markBehind v) ++ walk zero Erased ss es) (stepsOver v))
 
   headers-from :
       let v = verdictOf image map i in
@@ -99,13 +110,10 @@ module _ (image map : List ℕ) (i : ℕ) (long : length map ≡ 32) (inside : i
       ++ refusedHeaders zero (drop (i + 1 + stepsOver v) (statesOf map)) (drop (i + 1 + stepsOver v) (entriesOf image))
   headers-from =
       let v = verdictOf image map i in
-      let states = drop (i + 1) (statesOf map) in
-      let entries = drop (i + 1) (entriesOf image) in
-      ap₂ (λ (ss : List EntryMapState) (es : List (List ℕ)). refusedHeaders zero ss es) (states-from image map i long inside) (entries-from image map i long inside)
+      here (refusedHeaders zero)
       ∙ ap (λ (rest : List Bool). isRefusedItem v ∷ rest)
-      (refused-headers-skip (stepsOver v) states entries steps-states steps-entries
-      ∙ ap₂ (λ (ss : List EntryMapState) (es : List (List ℕ)). replicate (stepsOver v) false ++ refusedHeaders zero ss es)
-      (drop-drop (stepsOver v) (i + 1) (statesOf map)) (drop-drop (stepsOver v) (i + 1) (entriesOf image)))
+      (refused-headers-skip (stepsOver v) (drop (i + 1) (statesOf map)) (drop (i + 1) (entriesOf image)) steps-states steps-entries
+      ∙ after (λ ss es. replicate (stepsOver v) false ++ refusedHeaders zero ss es) (stepsOver v))
 
   kept-from :
       let v = verdictOf image map i in
@@ -114,14 +122,11 @@ module _ (image map : List ℕ) (i : ℕ) (long : length map ≡ 32) (inside : i
       (keptFrom zero (i + 1 + stepsOver v) (drop (i + 1 + stepsOver v) (statesOf map)) (drop (i + 1 + stepsOver v) (entriesOf image)))
   kept-from =
       let v = verdictOf image map i in
-      let states = drop (i + 1) (statesOf map) in
       let entries = drop (i + 1) (entriesOf image) in
-      ap₂ (λ (ss : List EntryMapState) (es : List (List ℕ)). keptFrom zero i ss es) (states-from image map i long inside) (entries-from image map i long inside)
-      ∙ ap (λ (rest : List Item). withKept v i (entryAt image i) entries rest)
-      (kept-skip (stepsOver v) (suc i) states entries steps-states steps-entries
-      ∙ ap₂ (λ (ss : List EntryMapState) (es : List (List ℕ)). keptFrom zero (suc i + stepsOver v) ss es)
-      (drop-drop (stepsOver v) (i + 1) (statesOf map)) (drop-drop (stepsOver v) (i + 1) (entriesOf image))
-      ∙ ap (λ (next : ℕ). keptFrom zero (next + stepsOver v) (drop (i + 1 + stepsOver v) (statesOf map)) (drop (i + 1 + stepsOver v) (entriesOf image))) (sym (add-one i)))
+      here (keptFrom zero i)
+      ∙ ap (withKept v i (entryAt image i) entries)
+      (kept-skip (stepsOver v) (suc i) (drop (i + 1) (statesOf map)) entries steps-states steps-entries
+      ∙ rw (← add-one i) (after (keptFrom zero (i + 1 + stepsOver v)) (stepsOver v)))
 
 -- ---- the map
 
@@ -155,13 +160,13 @@ pub marked-start : (image map : List ℕ) → length map ≡ 32 → Bytes map �
 marked-start image map long b = record { marks = refl; left = refl; spare = refl; bytes = b; whole = long }
 
 pub marked-end : (image map now : List ℕ) (i : ℕ) → length map ≡ 32 → i ≡ 126 → MarkedTo image map now i
-    → statesOf now ≡ walk zero Erased (statesOf map) (entriesOf image)
+    → HasStates map (walk zero Erased (statesOf map) (entriesOf image)) now
 marked-end image map now i long e to =
     let short : length (statesOf map) ≤ i = omega (arith, length-statesOf map long) in
     let fits : length (statesOf now) ≤ i = omega (arith, length-statesOf now (to .whole)) in
     let none = drop-of-length-le (statesOf map) short in
     let all = take-all i (statesOf now) fits in
-    sym (append-nil (statesOf now)) ∙ (rw (none, all) at (to .marks))
+    record { states-are = sym (append-nil (statesOf now)) ∙ (rw (none, all) at (to .marks)); spare = to .spare }
 
 drop-further : {A : Type 0} (xs ys : List A) (i j : ℕ) → i ≤ j → drop i xs ≡ drop i ys → drop j xs ≡ drop j ys
 drop-further xs ys i j h e =
@@ -209,9 +214,9 @@ module _ (image map now : List ℕ) (i : ℕ) (long : length map ≡ 32) (inside
       (length-markRange s i n now ∙ to .whole)
 
   pub marked-step : (v : Verdict) → verdictOf image map i ≡ v → MarkedTo image map (markedBy v i now) (i + 1 + stepsOver v)
-  marked-step NotAnItem e = marked-next NotAnItem now e refl (rw (to .left, states-from image map i long inside)) refl refl (to .bytes) (to .whole)
+  marked-step NotAnItem e = marked-next NotAnItem now e refl (rw (to .left, states-from map i long inside)) refl refl (to .bytes) (to .whole)
   marked-step (RefusedEntry reason) e =
-      let here : 1 ≤ length (drop i (statesOf map)) = rw (states-from image map i long inside) (omega arith) in
+      let here : 1 ≤ length (drop i (statesOf map)) = rw (states-from map i long inside) (omega arith) in
       marked-range (RefusedEntry reason) Erased 1 e refl (take-erased 1 (drop i (statesOf map)) here)
   marked-step (RefusedItem reason k) e =
       let fits : i + k < 126 = rw e at (steps-inside image map i long inside) in
@@ -222,7 +227,7 @@ module _ (image map now : List ℕ) (i : ℕ) (long : length map ≡ 32) (inside
       let kept = kept-usable (stateAt map i) (entryAt image i) (drop (i + 1) (statesOf map)) (drop (i + 1) (entriesOf image)) k e in
       let behind : k ≤ length (drop (i + 1) (statesOf map)) = rw (states-behind image map i long inside) (omega arith) in
       marked-range (Kept k) Written (k + 1) e (add-one k)
-      (rw (add-one k, states-from image map i long inside, kept .0)
+      (rw (add-one k, states-from map i long inside, kept .0)
       (ap (λ (rest : List EntryMapState). Written ∷ rest) (marked-usable k (drop (i + 1) (statesOf map)) behind (kept .1))))
 
 -- ---- refused headers

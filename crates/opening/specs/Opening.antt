@@ -1,7 +1,7 @@
 -- Opening (01, 'Opening'): which pages open, the map units that it programs, the record that it hands back.
 --
 -- In order: the header's verdict; the kept items and the list; the new map and its units, in two passes; answer and image.
--- Not here: the reading (crate reading), and what the passes do to the states and the units (crate marks).
+-- Not here: the reading (crate opening_reading), and what the passes do to the states and the units (crate opening_marks).
 use mathlib.Core.Bool.{Bool, true, false, _&&_, not, cond}
 use mathlib.Core.List.{List, [], _∷_, _++_}
 use Prim.Native.Nat.{ℕ, zero, suc}

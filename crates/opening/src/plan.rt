@@ -1,9 +1,8 @@
 // What opening does to a page that opens, read off its bytes before any is programmed.
 ghost use mathlib.Core.Path.{_≡_};
 ghost use lib.ListN.{length};
-ghost use Rattle.sector.specs.Layout.{sectorSize, mapOf};
-ghost use Rattle.opening.specs.Opening.{firstMap, openedPage};
-ghost use Rattle.opening.specs.Steps.{headerRecord};
+ghost use Rattle.sector.specs.Layout.{sectorSize};
+ghost use Rattle.opening.specs.Steps.{headerRecord, ChangesOf};
 use crate::Changes;
 use crate::Listing;
 use crate::walk;
@@ -39,7 +38,7 @@ fn header_record(image: &[u8], map: [u8; 32], listing: Listing) -> ThinPage
 // Reads the page: the walk, the entries before the free tail, the first pass, the record.
 pub(crate) fn changes(image: &[u8]) -> Changes
     requires { ⌜ length (now image) ≡ sectorSize ⌝ }
-    ensures { λ r. ⌜ (r .map ≡ mapOf (now (image .entry))) × (r .first ≡ firstMap (now (image .entry))) × (r .page ≡ openedPage (now (image .entry))) ⌝ }
+    ensures { λ r. ⌜ ChangesOf (now (image .entry)) r ⌝ }
 {
     let map = layout::map_of(image);
     let walked = walk::walk(image, map);

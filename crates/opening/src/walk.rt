@@ -1,12 +1,11 @@
 // The walk over the entries: from header to header, each verdict marked in the map and its item listed.
 ghost use mathlib.Core.Path.{_≡_};
-ghost use Prim.Native.Nat.{zero, _+_, _<_};
-ghost use lib.ListN.{length, drop};
-ghost use Rattle.sector.specs.Layout.{sectorSize, entriesPerPage, entriesOf};
-ghost use Rattle.sector.specs.Map.{unpack, statesOf};
-ghost use Rattle.opening_reading.specs.Reading.{stepsOver, walk, keptFrom};
-ghost use Rattle.opening.specs.Opening.{isRefusedItem, refusedHeaders, listedItems};
-ghost use Rattle.opening.specs.Steps.{markedBy, listingOf};
+ghost use Prim.Native.Nat.{_+_, _<_};
+ghost use lib.ListN.{length};
+ghost use Rattle.sector.specs.Layout.{sectorSize, entriesPerPage};
+ghost use Rattle.opening_reading.specs.Reading.{stepsOver};
+ghost use Rattle.opening.specs.Opening.{isRefusedItem};
+ghost use Rattle.opening.specs.Steps.{markedBy, WalkLeaves};
 use crate::Walked;
 use crate::kept;
 use opening_reading::Verdict;
@@ -55,7 +54,7 @@ fn marked_by(map: [u8; 32], index: usize, verdict: Verdict) -> [u8; 32]
 // Walks from entry 0 to the last: what it leaves of the map, where it refused a payload item, and the items that it kept.
 pub(crate) fn walk(image: &[u8], map: [u8; 32]) -> Walked
     requires { ⌜ length (now image) ≡ sectorSize ⌝ }
-    ensures { λ r. ⌜ (statesOf (r .map) ≡ walk zero EntryMapState.Erased (statesOf map) (entriesOf (now (image .entry)))) × (drop entriesPerPage (unpack (r .map)) ≡ drop entriesPerPage (unpack map)) × (r .heads ≡ refusedHeaders zero (statesOf map) (entriesOf (now (image .entry)))) × (r .listing ≡ listingOf (listedItems (keptFrom zero zero (statesOf map) (entriesOf (now (image .entry)))))) ⌝ }
+    ensures { λ r. ⌜ WalkLeaves (now (image .entry)) map r ⌝ }
 {
     let mut marked = map;
     let mut heads = [false; 126];

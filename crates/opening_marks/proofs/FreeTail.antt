@@ -34,7 +34,7 @@ free-tail-false (suc n) (s ∷ states) (entry ∷ entries) h g e =
     (λ t. false≢true (sym (free-tail-false n states entries (le-of-suc-le-suc h) (le-of-suc-le-suc g) e) ∙ free-tail-tail s states entry entries t))
 
 -- in a free tail nothing is shut
-shut-free-tail : (states : List EntryMapState) (entries : List (List ℕ)) → isFreeTail states entries ≡ true
+pub shut-free-tail : (states : List EntryMapState) (entries : List (List ℕ)) → isFreeTail states entries ≡ true
     → shutBeforeTail states entries ≡ states
 shut-free-tail [] entries e = refl
 shut-free-tail (s ∷ states) [] e = refl
@@ -53,16 +53,11 @@ shut-before (suc n) (s ∷ states) (entry ∷ entries) h g before free =
     (ap (λ (rest : List EntryMapState). shut s ∷ rest)
     (shut-before n states entries (le-of-suc-le-suc h) (le-of-suc-le-suc g) (λ i l. before (suc i) (suc-le-suc l)) free))
 
--- all is free
-pub shut-none : (states : List EntryMapState) (entries : List (List ℕ)) → isFreeTail states entries ≡ true
-    → shutBeforeTail states entries ≡ shutTo 0 states
-shut-none states entries free = shut-free-tail states entries free
-
--- all is free behind n, and not from n on
-pub shut-behind : (n : ℕ) (states : List EntryMapState) (entries : List (List ℕ)) → n < length states → n < length entries
+-- all is free after n, and not from n on
+pub shut-after : (n : ℕ) (states : List EntryMapState) (entries : List (List ℕ)) → n < length states → n < length entries
     → isFreeTail (drop n states) (drop n entries) ≡ false → isFreeTail (drop (suc n) states) (drop (suc n) entries) ≡ true
     → shutBeforeTail states entries ≡ shutTo (suc n) states
-shut-behind n states entries h g taken free = shut-before (suc n) states entries h g before free
+shut-after n states entries h g taken free = shut-before (suc n) states entries h g before free
   where
     before : (i : ℕ) → i < suc n → isFreeTail (drop i states) (drop i entries) ≡ false
     before i l =

@@ -1,6 +1,6 @@
 -- The map's marks entry by entry, and its units one by one.
 use mathlib.Core.Path.{_≡_, refl, sym, ap, ap₂, _∙_}
-use mathlib.Core.Bool.{Bool, true, false, _&&_, not, cond, false≢true}
+use mathlib.Core.Bool.{Bool, true, false, _&&_, not, cond}
 use mathlib.Core.List.{List, [], _∷_, _++_, append-nil}
 use Prim.Native.Nat.{ℕ, zero, suc, _+_, _*_, _<_, _≤_}
 use native.Mathlib.Nat.{le-of-suc-le-suc, not-suc-le-zero, le-refl, add-zero}
@@ -17,13 +17,17 @@ use Rattle.sector.specs.Map.{unpack, statesOf, stateAt, sameState, pack, markRa
 use Rattle.sector.proofs.Laws.{field-cons, length-statesOf, getD-statesOf, length-markRange}
 use Rattle.sector.proofs.Marks.{both, take-marked, drop-marked, getD-marked-same, statesOf-markRange, unpack-markRange, bytes-markRange, pack-unpack}
 use Rattle.opening_reading.specs.Reading.{shut}
-use Rattle.opening_marks.specs.Marks.{upperCleared, firstPass, mapUnit, changedUnits, shutTo}
+use Rattle.opening_marks.specs.Marks.{HasStates, upperCleared, firstPass, mapUnit, changedUnits, shutTo}
 
 -- ---- maps by their states
 
 -- a map is its entries' states, and the two that belong to none
-pub map-states : {map : List ℕ} → Bytes map → map ≡ pack (statesOf map ++ drop entriesPerPage (unpack map))
+map-states : {map : List ℕ} → Bytes map → map ≡ pack (statesOf map ++ drop entriesPerPage (unpack map))
 map-states {map} b = sym (pack-unpack b) ∙ ap pack (sym (take-append-drop entriesPerPage (unpack map)))
+
+pub has-states : {before after : List ℕ} {states : List EntryMapState} → Bytes after → HasStates before states after
+    → after ≡ pack (states ++ drop entriesPerPage (unpack before))
+has-states b h = map-states b ∙ ap₂ (λ (front spare : List EntryMapState). pack (front ++ spare)) (h .states-are) (h .spare)
 
 -- ---- units
 
@@ -96,11 +100,11 @@ module _ (target : List EntryMapState) (map now : List ℕ) (i : ℕ) (long : le
       }
 
   -- the entry stays
-  pub passed-same : getD target i Empty ≡ stateAt map i → PassedTo target map now (i + 1)
+  passed-same : getD target i Empty ≡ stateAt map i → PassedTo target map now (i + 1)
   passed-same e = passed-next now refl (state-left ∙ sym e) refl refl (to .bytes) (to .whole)
 
   -- the entry is marked
-  pub passed-mark : (s : EntryMapState) → getD target i Empty ≡ both (stateAt map i) s → PassedTo target map (markRange s i 1 now) (i + 1)
+  passed-mark : (s : EntryMapState) → getD target i Empty ≡ both (stateAt map i) s → PassedTo target map (markRange s i 1 now) (i + 1)
   passed-mark s e =
       let states = statesOf-markRange s i 1 (to .bytes) in
       let fits : i < length (statesOf now) = rw (length-statesOf now (to .whole)) inside in
@@ -112,23 +116,28 @@ module _ (target : List EntryMapState) (map now : List ℕ) (i : ℕ) (long : le
       (bytes-markRange s i 1 (to .bytes))
       (length-markRange s i 1 now ∙ to .whole)
 
+  -- either, by a test
+  pub passed-where : (s : EntryMapState) (marks : Bool) → getD target i Empty ≡ cond marks (both (stateAt map i) s) (stateAt map i)
+      → PassedTo target map (cond marks (markRange s i 1 now) now) (i + 1)
+  passed-where s true e = passed-mark s e
+  passed-where s false e = passed-same e
+
+  pub passed-unless : (s : EntryMapState) (stays : Bool) → getD target i Empty ≡ cond stays (stateAt map i) (both (stateAt map i) s)
+      → PassedTo target map (cond stays now (markRange s i 1 now)) (i + 1)
+  passed-unless s true e = passed-same e
+  passed-unless s false e = passed-mark s e
+
   -- so it is read from the map as it is
   pub state-there : stateAt now i ≡ stateAt map i
   state-there = sym (getD-statesOf now i (to .whole) inside) ∙ state-left
 
 -- ---- before the free tail
 
-shut-written : (s : EntryMapState) → sameState s Written ≡ true → shut s ≡ s
-shut-written Empty e = absurd (false≢true e)
-shut-written Written e = refl
-shut-written Erased e = absurd (false≢true e)
-shut-written Illegal e = absurd (false≢true e)
-
-shut-other : (s : EntryMapState) → sameState s Written ≡ false → shut s ≡ both s Erased
-shut-other Empty e = refl
-shut-other Written e = absurd (false≢true (sym e))
-shut-other Erased e = refl
-shut-other Illegal e = refl
+shut-is : (s : EntryMapState) → shut s ≡ cond (sameState s Written) s (both s Erased)
+shut-is Empty = refl
+shut-is Written = refl
+shut-is Erased = refl
+shut-is Illegal = refl
 
 getD-shutTo : (n i : ℕ) (states : List EntryMapState) → i < n → n ≤ length states → getD (shutTo n states) i Empty ≡ shut (getD states i Empty)
 getD-shutTo zero i states h g = absurd (not-suc-le-zero h)
@@ -148,24 +157,17 @@ shutTo-parts (suc n) (s ∷ states) = ap (λ (rest : List EntryMapState). shut s
 
 pub shut-step : (end : ℕ) (map now : List ℕ) (i : ℕ) → length map ≡ 32 → i < end → end ≤ 126 → PassedTo (shutTo end (statesOf map)) map now i
     → PassedTo (shutTo end (statesOf map)) map (cond (sameState (stateAt now i) Written) now (markRange Erased i 1 now)) (i + 1)
-shut-step end map now i long within fits to = go (sameState (stateAt now i) Written) refl
-  where
-    inside : i < 126
-    inside = omega arith
+shut-step end map now i long within fits to =
+    let target = shutTo end (statesOf map) in
+    let inside : i < 126 = omega arith in
+    let room : i < length target = rw (length-shutTo end (statesOf map), length-statesOf map long) inside in
+    let at : getD target i Empty ≡ shut (stateAt map i) =
+    getD-shutTo end i (statesOf map) within (rw (length-statesOf map long) fits) ∙ ap shut (getD-statesOf map i long inside) in
+    rw (state-there target map now i long inside room to)
+    (passed-unless target map now i long inside room to Erased (sameState (stateAt map i) Written) (at ∙ shut-is (stateAt map i)))
 
-    room : i < length (shutTo end (statesOf map))
-    room = rw (length-shutTo end (statesOf map), length-statesOf map long) inside
-
-    at : getD (shutTo end (statesOf map)) i Empty ≡ shut (stateAt map i)
-    at = getD-shutTo end i (statesOf map) within (rw (length-statesOf map long) fits) ∙ ap shut (getD-statesOf map i long inside)
-
-    go : (written : Bool) → sameState (stateAt now i) Written ≡ written
-        → PassedTo (shutTo end (statesOf map)) map (cond written now (markRange Erased i 1 now)) (i + 1)
-    go true e = passed-same (shutTo end (statesOf map)) map now i long inside room to (at ∙ shut-written (stateAt map i) (rw (state-there (shutTo end (statesOf map)) map now i long inside room to) at e))
-    go false e = passed-mark (shutTo end (statesOf map)) map now i long inside room to Erased (at ∙ shut-other (stateAt map i) (rw (state-there (shutTo end (statesOf map)) map now i long inside room to) at e))
-
-pub shut-end : {end : ℕ} {map now : List ℕ} → PassedTo (shutTo end (statesOf map)) map now end → statesOf now ≡ shutTo end (statesOf map)
-shut-end {end} {map} to = passed-end to ∙ shutTo-parts end (statesOf map)
+pub shut-end : {end : ℕ} {map now : List ℕ} → PassedTo (shutTo end (statesOf map)) map now end → HasStates map (shutTo end (statesOf map)) now
+shut-end {end} {map} to = record { states-are = passed-end to ∙ shutTo-parts end (statesOf map); spare = to .spare }
 
 -- ---- the first pass
 
@@ -192,29 +194,27 @@ getD-firstPass (suc i) (s ∷ states) (new ∷ news) (head ∷ heads) h g f =
     getD-firstPass i states news heads (le-of-suc-le-suc h) (le-of-suc-le-suc g) (le-of-suc-le-suc f)
 
 module _ (map opened : List ℕ) (heads : List Bool) (long : length map ≡ 32) (opened-long : length opened ≡ 32) (heads-long : length heads ≡ 126) where
-  pub first-step : (now : List ℕ) (i : ℕ) → i < 126 → PassedTo (firstPass (statesOf map) (statesOf opened) heads) map now i
-      → PassedTo (firstPass (statesOf map) (statesOf opened) heads) map
-      (cond (sameState (stateAt opened i) Erased && not (getD heads i false)) (markRange Illegal i 1 now) now) (i + 1)
-  first-step now i inside to = go (sameState (stateAt opened i) Erased && not (getD heads i false)) refl
-    where
-      room : i < length (firstPass (statesOf map) (statesOf opened) heads)
-      room = rw (length-firstPass (statesOf map) (statesOf opened) heads, length-statesOf map long) inside
+  abbrev passed : List EntryMapState
+  passed = firstPass (statesOf map) (statesOf opened) heads
 
-      at : getD (firstPass (statesOf map) (statesOf opened) heads) i Empty
-          ≡ cond (sameState (stateAt opened i) Erased && not (getD heads i false)) (upperCleared (stateAt map i)) (stateAt map i)
-      at =
-          getD-firstPass i (statesOf map) (statesOf opened) heads (rw (length-statesOf map long) inside) (rw (length-statesOf opened opened-long) inside) (rw heads-long inside)
-          ∙ rw (getD-statesOf map i long inside, getD-statesOf opened i opened-long inside)
+  passed-long : length passed ≡ 126
+  passed-long = length-firstPass (statesOf map) (statesOf opened) heads ∙ length-statesOf map long
 
-      go : (clears : Bool) → (sameState (stateAt opened i) Erased && not (getD heads i false)) ≡ clears
-          → PassedTo (firstPass (statesOf map) (statesOf opened) heads) map (cond clears (markRange Illegal i 1 now) now) (i + 1)
-      go true e = passed-mark (firstPass (statesOf map) (statesOf opened) heads) map now i long inside room to Illegal (at ∙ rw e (upperCleared-illegal (stateAt map i)))
-      go false e = passed-same (firstPass (statesOf map) (statesOf opened) heads) map now i long inside room to (at ∙ rw e)
+  pub first-step : (now : List ℕ) (i : ℕ) → i < 126 → PassedTo passed map now i
+      → PassedTo passed map (cond (sameState (stateAt opened i) Erased && not (getD heads i false)) (markRange Illegal i 1 now) now) (i + 1)
+  first-step now i inside to =
+      let clears = sameState (stateAt opened i) Erased && not (getD heads i false) in
+      let at : getD passed i Empty ≡ cond clears (upperCleared (stateAt map i)) (stateAt map i) =
+      getD-firstPass i (statesOf map) (statesOf opened) heads (rw (length-statesOf map long) inside) (rw (length-statesOf opened opened-long) inside) (rw heads-long inside)
+      ∙ rw (getD-statesOf map i long inside, getD-statesOf opened i opened-long inside) in
+      passed-where passed map now i long inside (rw passed-long inside) to Illegal clears
+      (at ∙ ap (λ (s : EntryMapState). cond clears s (stateAt map i)) (upperCleared-illegal (stateAt map i)))
 
-  pub first-end : {now : List ℕ} → PassedTo (firstPass (statesOf map) (statesOf opened) heads) map now 126
-      → statesOf now ≡ firstPass (statesOf map) (statesOf opened) heads
+  pub first-end : {now : List ℕ} → PassedTo passed map now 126 → HasStates map passed now
   first-end to =
-      let target = firstPass (statesOf map) (statesOf opened) heads in
-      let whole : length target ≤ 126 = rw (length-firstPass (statesOf map) (statesOf opened) heads, length-statesOf map long) (le-refl 126) in
+      let whole : length passed ≤ 126 = rw passed-long (le-refl 126) in
       let short : length (statesOf map) ≤ 126 = rw (length-statesOf map long) (le-refl 126) in
-      passed-end to ∙ rw (take-all 126 target whole, drop-of-length-le (statesOf map) short) (append-nil target)
+      record {
+        states-are = passed-end to ∙ rw (take-all 126 passed whole, drop-of-length-le (statesOf map) short) (append-nil passed);
+        spare = to .spare;
+      }

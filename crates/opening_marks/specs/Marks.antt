@@ -1,8 +1,9 @@
--- The marks that opening leaves behind the walk (01, 'Opening'): the entries before the free tail shut, by where it starts; the states
--- after the first of two passes; the units in which two maps differ.
+-- The marks that opening leaves after the walk (01, 'Opening'): a map by its states; the entries before the free tail shut, by where it
+-- starts; the states after the first of two passes; the units in which two maps differ.
 --
 -- The passes are so that a cut during opening, opened again, gives what one whole opening gives: first the upper bit of every entry
 -- that becomes Erased and is not the header of a refused payload item, then the new map. Only units that change are programmed.
+use mathlib.Core.Path.{_≡_}
 use mathlib.Core.Bool.{Bool, _&&_, not, cond}
 use mathlib.Core.List.{List, [], _∷_, _++_, map}
 use Prim.Native.Nat.{ℕ, zero, suc, _+_, _*_}
@@ -10,9 +11,16 @@ use lib.ListN.{take, drop}
 use Rattle.flash.specs.Flash.{Unit4, units}
 use Rattle.sector.specs.declared.EntryMapState.{EntryMapState}
 use Rattle.sector.specs.declared.EntryMapState.the-variants.{Empty, Written, Erased, Illegal}
-use Rattle.sector.specs.Layout.{mapOffset, field, sameBytes}
-use Rattle.sector.specs.Map.{sameState}
+use Rattle.sector.specs.Layout.{entriesPerPage, mapOffset, field, sameBytes}
+use Rattle.sector.specs.Map.{unpack, statesOf, sameState}
 use Rattle.opening_reading.specs.Reading.{shut}
+
+-- ---- a map by its states
+
+-- a map with these states, whose bits that belong to no entry are those of the map before
+pub record HasStates (before : List ℕ) (states : List EntryMapState) (after : List ℕ) : Type 0 where
+  pub states-are : statesOf after ≡ states
+  pub spare : drop entriesPerPage (unpack after) ≡ drop entriesPerPage (unpack before)
 
 -- ---- before the free tail
 

@@ -1,14 +1,14 @@
-// The marks that opening leaves behind the walk: entries before the free tail shut, and the map in two passes.
+// The marks that opening leaves after the walk: entries before the free tail shut, and the map in two passes.
 ghost use mathlib.Core.Path.{_≡_};
 ghost use mathlib.Core.Bool.{_&&_, not, cond};
 ghost use mathlib.Core.List.{[]};
 ghost use Prim.Native.Nat.{_+_, _*_, _<_, _≤_};
-ghost use lib.ListN.{length, drop};
+ghost use lib.ListN.{length};
 ghost use Rattle.flash.specs.Flash.{allOnes, units, run};
 ghost use Rattle.sector.specs.Layout.{sectorSize, entriesPerPage, mapOffset, entryAt, entriesOf, sameBytes};
-ghost use Rattle.sector.specs.Map.{unpack, statesOf, stateAt, sameState, markRange};
+ghost use Rattle.sector.specs.Map.{statesOf, stateAt, sameState, markRange};
 ghost use Rattle.opening_reading.specs.Reading.{isEmpty, shutBeforeTail};
-ghost use Rattle.opening_marks.specs.Marks.{shutTo, firstPass, mapUnit, changedUnits};
+ghost use Rattle.opening_marks.specs.Marks.{HasStates, shutTo, firstPass, mapUnit, changedUnits};
 use sector::ENTRIES_PER_PAGE;
 use sector::EntryMapState;
 use sector::MAP_OFFSET;
@@ -77,7 +77,7 @@ fn shut_entry(map: [u8; 32], index: usize) -> [u8; 32]
 // The map with each entry before an end Erased, unless it is Written.
 fn shut_to(map: [u8; 32], end: usize) -> [u8; 32]
     requires { ⌜ end ≤ entriesPerPage ⌝ }
-    ensures { λ r. ⌜ (statesOf r ≡ shutTo end (statesOf map)) × (drop entriesPerPage (unpack r) ≡ drop entriesPerPage (unpack map)) ⌝ }
+    ensures { λ r. ⌜ HasStates map (shutTo end (statesOf map)) r ⌝ }
 {
     let mut marked = map;
     for index in 0..end {
@@ -90,7 +90,7 @@ fn shut_to(map: [u8; 32], end: usize) -> [u8; 32]
 // Before the free tail every Empty or Illegal entry becomes Erased.
 pub fn shut_before_tail(image: &[u8], map: [u8; 32]) -> [u8; 32]
     requires { ⌜ length (now image) ≡ sectorSize ⌝ }
-    ensures { λ r. ⌜ (statesOf r ≡ shutBeforeTail (statesOf map) (entriesOf (now (image .entry)))) × (drop entriesPerPage (unpack r) ≡ drop entriesPerPage (unpack map)) ⌝ }
+    ensures { λ r. ⌜ HasStates map (shutBeforeTail (statesOf map) (entriesOf (now (image .entry)))) r ⌝ }
 {
     let start = tail_start(image, map);
     shut_to(map, start)
@@ -112,7 +112,7 @@ fn clear_upper(map: [u8; 32], opened: [u8; 32], head: bool, index: usize) -> [u8
 
 // The map after the first pass, from the map before opening, the one that it leaves, and the refused headers.
 pub fn first_pass(map: [u8; 32], opened: [u8; 32], heads: [bool; 126]) -> [u8; 32]
-    ensures { λ r. ⌜ (statesOf r ≡ firstPass (statesOf map) (statesOf opened) heads) × (drop entriesPerPage (unpack r) ≡ drop entriesPerPage (unpack map)) ⌝ }
+    ensures { λ r. ⌜ HasStates map (firstPass (statesOf map) (statesOf opened) heads) r ⌝ }
 {
     let mut marked = map;
     for index in 0..ENTRIES_PER_PAGE {

@@ -1,4 +1,4 @@
--- The entries of an image, as the code meets them: the payload behind a header as one run of bytes; states and entries from one of them on.
+-- The entries of an image, as the code meets them: the payload after a header as one run of bytes; states and entries from one of them on.
 use mathlib.Core.Path.{_≡_, refl, sym, ap, ap₂, _∙_}
 use mathlib.Core.List.{List, [], _∷_, _++_}
 use Prim.Native.Nat.{ℕ, zero, suc, _+_, _-_, _*_, _<_, _≤_}
@@ -39,7 +39,7 @@ joined-chunks (suc k) bytes =
 
 -- ---- of an image
 
--- the first bytes of the payload behind entry i
+-- the first bytes of the payload after entry i
 pub take-joined : (image : List ℕ) (i k size : ℕ) → suc i + k ≤ 126 → size ≤ entrySize * k
     → take size (joined (take k (drop (suc i) (entriesOf image)))) ≡ take size (drop (entryAddress (suc i)) image)
 take-joined image i k size h fits =
@@ -54,13 +54,12 @@ take-joined image i k size h fits =
 
 -- ---- from entry i on
 
-module _ (image map : List ℕ) (i : ℕ) (long : length map ≡ 32) (inside : i < 126) where
-  pub states-from : drop i (statesOf map) ≡ stateAt map i ∷ drop (i + 1) (statesOf map)
-  states-from =
-      let fits : i < length (statesOf map) = rw (length-statesOf map long) inside in
-      rw (drop-cons (statesOf map) i Empty fits, getD-statesOf map i long inside, add-one i)
+pub states-from : (map : List ℕ) (i : ℕ) → length map ≡ 32 → i < 126 → drop i (statesOf map) ≡ stateAt map i ∷ drop (i + 1) (statesOf map)
+states-from map i long inside =
+    let fits : i < length (statesOf map) = rw (length-statesOf map long) inside in
+    rw (drop-cons (statesOf map) i Empty fits, getD-statesOf map i long inside, add-one i)
 
-  pub entries-from : drop i (entriesOf image) ≡ entryAt image i ∷ drop (i + 1) (entriesOf image)
-  entries-from =
-      let fits : i < length (entriesOf image) = rw (length-entriesOf image) inside in
-      rw (drop-cons (entriesOf image) i [] fits, getD-entriesOf image i inside, add-one i)
+pub entries-from : (image : List ℕ) (i : ℕ) → i < 126 → drop i (entriesOf image) ≡ entryAt image i ∷ drop (i + 1) (entriesOf image)
+entries-from image i inside =
+    let fits : i < length (entriesOf image) = rw (length-entriesOf image) inside in
+    rw (drop-cons (entriesOf image) i [] fits, getD-entriesOf image i inside, add-one i)

@@ -65,7 +65,7 @@ module _ {index : ℕ} {group : Entries} (image : List ℕ) (size : length image
 
   -- its entries are the page's from its index on
   lies : entryAt image index ∷ take k (drop (index + 1) (entriesOf image)) ≡ found .header ∷ found .new
-  lies = rw (entries-from image (mapOf image) index (map-size image size) inside, group-long) at (found .bytes) ∙ found .header-first
+  lies = rw (entries-from image index inside, group-long) at (found .bytes) ∙ found .header-first
 
   entry-is : entryAt image index ≡ found .header
   entry-is = head-eq-of-cons-eq lies

@@ -1,9 +1,11 @@
 -- `open_page` meets its contract: the length is tested first, then each verdict on the header answers as `answerFor` and programs as `planFor`.
 use mathlib.Core.Path.{_≡_, refl, sym, ap, _∙_}
+use mathlib.Core.List.{[]}
 use borrow.Author.Needs.{needs}
 use borrow.Author.Tests.{eq-eqb, ne-eqb}
 use lib.ListN.{length}
 use Rattle.flash.specs.Flash.{run}
+use Rattle.page.specs.declared.Outcome.{Outcome}
 use Rattle.page.specs.Writing.{answered}
 use Rattle.sector.specs.declared.Answer.the-variants.{Done}
 use Rattle.opening.specs.Opening.{HeaderVerdict, answerFor, planFor, opening, openingImage}
@@ -20,21 +22,24 @@ decided c verdict e =
     let whole = eq-eqb (length image) 4096 (c .before .before .if1 .left) in
     rw (whole, sym (c .header-verdict .ensures) ∙ e) (refl, refl)
 
+-- where the verdict programs nothing, the answer is all
+answered-only : {outcome : Outcome} (c : tie.After-header-verdict) (verdict : HeaderVerdict) → c .header-verdict .result ≡ verdict
+    → let image = c .before .before .before .before .args .image .now in
+    planFor verdict image ≡ [] → outcome ≡ answerFor verdict image
+    → (outcome ≡ opening image) × (image ≡ openingImage image)
+unfolding run
+answered-only c verdict e none made =
+    let result = decided c verdict e in
+    (made ∙ sym (result .0), sym (rw none at (result .1)))
+
 returns : tie.Need-returns
 unfolding opening openingImage
 returns c =
     let image = c .before .before .before .args .image .now in
     rw (ne-eqb (length image) 4096 (c .before .if1 .taken)) (c .blank .ensures, refl)
 
-enum-told : tie.Need-enum-told
-enum-told c = search needs
-
 returns-2 : tie.Need-returns-2
-unfolding run
-returns-2 c =
-    let told = c .before in
-    let result = decided (told .before .before) _ (told .enum-told .given .1) in
-    (c .blank2 .ensures ∙ sym (result .0), sym (result .1))
+returns-2 c = answered-only (c .before .before .before) _ (c .before .enum-told .given .1) refl (c .blank2 .ensures)
 
 returns-3 : tie.Need-returns-3
 returns-3 c =
@@ -44,25 +49,13 @@ returns-3 c =
     (ap (answered Done) (done .opened-page .ensures .0) ∙ sym (result .0), done .opened-page .ensures .1 ∙ sym (result .1))
 
 returns-4 : tie.Need-returns-4
-unfolding run
-returns-4 c =
-    let told = c .before in
-    let result = decided (told .before .before) _ (told .enum-told3 .given .1) in
-    (c .blank3 .ensures ∙ sym (result .0), sym (result .1))
+returns-4 c = answered-only (c .before .before .before) _ (c .before .enum-told3 .given .1) refl (c .blank3 .ensures)
 
 returns-5 : tie.Need-returns-5
-unfolding run
-returns-5 c =
-    let told = c .before in
-    let result = decided (told .before .before) _ (told .enum-told4 .given .1) in
-    (c .blank4 .ensures ∙ sym (result .0), sym (result .1))
+returns-5 c = answered-only (c .before .before .before) _ (c .before .enum-told4 .given .1) refl (c .blank4 .ensures)
 
 returns-6 : tie.Need-returns-6
-unfolding run
-returns-6 c =
-    let told = c .before in
-    let result = decided (told .before .before) _ (told .enum-told5 .given .1) in
-    (c .blank5 .ensures ∙ sym (result .0), sym (result .1))
+returns-6 c = answered-only (c .before .before .before) _ (c .before .enum-told5 .given .1) refl (c .blank5 .ensures)
 
 pub open-page-spec : {M : Type 1} → statement M
 open-page-spec =
@@ -71,7 +64,7 @@ open-page-spec =
     (λ c κs. search needs)
     returns
     (λ c κs. search needs)
-    enum-told
+    (λ c. search needs)
     (λ c κs. search needs)
     (λ c. search needs)
     (λ c κs. search needs)

@@ -12,7 +12,7 @@ use Rattle.opening.proofs.opened_page.Tie as tie
 -- the map that the record has is the one that opening leaves
 opened : (c : tie.After-changes) → c .changes .result .page .map ≡ openedMap (c .before .before .before .args .image .now)
 unfolding openedPage
-opened c = ap (λ (page : ThinPage). page .map) (c .changes .ensures .2)
+opened c = ap (λ (page : ThinPage). page .map) (c .changes .ensures .page)
 
 returns : tie.Need-returns
 unfolding openingPlan
@@ -20,10 +20,11 @@ returns c =
     let second = c .before .before in
     let first = second .before .before .before .before in
     let read = first .before .before .before .before .before .before in
+    let plan = read .changes .ensures in
     let image = read .before .before .before .args .image .now in (
-      read .changes .ensures .2,
+      plan .page,
       second .program-changes2 .ensures
-          ∙ rw (opened read, read .changes .ensures .1, first .program-changes .ensures, read .changes .ensures .0, read .changes .ensures .1)
+          ∙ rw (opened read, plan .first, first .program-changes .ensures, plan .map, plan .first)
           (sym (run-append (changedUnits 0 8 (mapOf image) (firstMap image)) (changedUnits 0 8 (firstMap image) (openedMap image)) image)),
     )
 

@@ -38,10 +38,8 @@ returns c =
     let at = c .before in
     let start = at .before in
     let args = start .args in
-    let end : at .loop .index ≡ 126 = omega arith in (
-      first-end (args .map) (args .opened) (args .t3) (long start) (start .good .1 .0 .1 .0 .1) (start .good .1 .1 .0 .1 .0 .1) (rw end at (at .loop .inv .1)),
-      at .loop .inv .1 .spare,
-    )
+    let end : at .loop .index ≡ 126 = omega arith in
+    first-end (args .map) (args .opened) (args .t3) (long start) (start .good .1 .0 .1 .0 .1) (start .good .1 .1 .0 .1 .0 .1) (rw end at (at .loop .inv .1))
 
 pub first-pass-spec : {M : Type 1} → statement M
 first-pass-spec =

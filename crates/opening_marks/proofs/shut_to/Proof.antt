@@ -35,7 +35,7 @@ returns : tie.Need-returns Inv-loop μ-loop
 returns c =
     let at = c .before in
     let end : at .loop .index ≡ at .before .args .end = omega arith in
-    (shut-end (rw end at (at .loop .inv .1)), at .loop .inv .1 .spare)
+    shut-end (rw end at (at .loop .inv .1))
 
 pub shut-to-spec : {M : Type 1} → statement M
 shut-to-spec =

@@ -11,7 +11,7 @@ use Rattle.sector.specs.Layout.{entryAt, entriesOf}
 use Rattle.sector.specs.Map.{statesOf}
 use Rattle.sector.proofs.Laws.{length-statesOf, length-entriesOf}
 use Rattle.opening_reading.specs.Reading.{isFreeTail}
-use Rattle.opening_marks.proofs.FreeTail.{shut-none, shut-behind}
+use Rattle.opening_marks.proofs.FreeTail.{shut-free-tail, shut-after}
 use Rattle.opening_reading.proofs.Entries.{states-from, entries-from}
 use Rattle.opening_marks.proofs.tail_start.Statement.{statement}
 use Rattle.opening_marks.proofs.tail_start.Tie as tie
@@ -44,7 +44,7 @@ tail-next c =
     let long : length map ≡ 32 = omega arith in
     let inside : index < 126 = omega arith in
     let next : index + 1 ≡ at .loop .start = omega arith in
-    rw (states-from image map index long inside, entries-from image map index long inside, next, at .loop .inv .1, and-true (allOnes (entryAt image index)))
+    rw (states-from map index long inside, entries-from image index inside, next, at .loop .inv .1, and-true (allOnes (entryAt image index)))
     (sym (c .is-free .ensures))
 
 returns : tie.Need-returns Inv-loop μ-loop
@@ -58,7 +58,7 @@ returns c =
     let next : suc index ≡ at .loop .start = omega arith in (
       at .loop .inv .0,
       rw (← next)
-          (shut-behind index (statesOf map) (entriesOf image) (rw (length-statesOf map long) (omega arith)) (rw (length-entriesOf image) (omega arith))
+          (shut-after index (statesOf map) (entriesOf image) (rw (length-statesOf map long) (omega arith)) (rw (length-entriesOf image) (omega arith))
           (tail-next (c .before) ∙ not-true (c .before .is-free .result) (c .if1 .taken)) (rw next (at .loop .inv .1))),
     )
 
@@ -70,7 +70,7 @@ returns-2 c =
     let at = c .before in
     let args = at .before .before .args in
     let none : at .loop .start ≡ 0 = omega arith in
-    (at .loop .inv .0, rw none (shut-none (statesOf (args .map)) (entriesOf (args .image .now)) (rw none at (at .loop .inv .1))))
+    (at .loop .inv .0, rw none (shut-free-tail (statesOf (args .map)) (entriesOf (args .image .now)) (rw none at (at .loop .inv .1))))
 
 pub tail-start-spec : {M : Type 1} → statement M
 tail-start-spec =

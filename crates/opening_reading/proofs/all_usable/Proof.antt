@@ -1,27 +1,17 @@
 -- `opening_reading::all_usable` meets its contract: what is left to test decides as the whole does, since all before is usable.
 use mathlib.Core.Path.{_≡_, sym, _∙_}
 use mathlib.Core.Bool.{_&&_}
-use mathlib.Core.List.{List}
-use Prim.Native.Nat.{ℕ, suc, _+_, _-_, _<_, _≤_}
+use Prim.Native.Nat.{suc, _+_, _-_, _≤_}
 use native.Mathlib.Nat.{add-zero, sub-zero}
 use native.Mathlib.Omega.{arith}
 use borrow.Author.Needs.{needs}
 use borrow.Author.Tests.{not-true, not-false}
 use lib.ListN.{length, drop}
-use lib.Seq.{drop-cons}
-use Rattle.sector.specs.declared.EntryMapState.the-variants.{Empty}
-use Rattle.sector.specs.Map.{stateAt, statesOf}
-use Rattle.sector.proofs.Laws.{length-statesOf, getD-statesOf}
-use Rattle.opening_reading.specs.Reading.{isUsable, usable}
+use Rattle.sector.specs.Map.{statesOf}
+use Rattle.opening_reading.specs.Reading.{usable}
+use Rattle.opening_reading.proofs.Entries.{states-from}
 use Rattle.opening_reading.proofs.all_usable.Statement.{statement}
 use Rattle.opening_reading.proofs.all_usable.Tie as tie
-
--- the first of n + 1 entries, and the rest
-usable-next : (map : List ℕ) (i n : ℕ) → length map ≡ 32 → i < 126
-    → usable (suc n) (drop i (statesOf map)) ≡ (isUsable (stateAt map i) && usable n (drop (suc i) (statesOf map)))
-usable-next map i n l h =
-    let inside : i < length (statesOf map) = rw (length-statesOf map l) h in
-    rw (drop-cons (statesOf map) i Empty inside, getD-statesOf map i l h)
 
 abbrev Inv-loop : tie.InvT-loop
 Inv-loop map first count k₀ k =
@@ -43,9 +33,9 @@ next c =
     let args = c .before .before .before .before .args in
     let at = c .before .before .before .loop in
     let left : args .count - at .k ≡ suc (args .count - (at .k + 1)) = omega arith in
-    let behind : suc (args .first + at .k) ≡ args .first + (at .k + 1) = omega arith in
+    let after : args .first + at .k + 1 ≡ args .first + (at .k + 1) = omega arith in
     let full : length (args .map) ≡ 32 = omega arith in
-    sym (at .inv .1) ∙ rw (left, usable-next (args .map) (args .first + at .k) (args .count - (at .k + 1)) full (omega arith), behind, c .is-usable .ensures, c .before .state-at .ensures)
+    sym (at .inv .1) ∙ rw (left, states-from (args .map) (args .first + at .k) full (omega arith), after, c .is-usable .ensures, c .before .state-at .ensures)
 
 returns : tie.Need-returns Inv-loop μ-loop
 returns c = sym (rw (not-true (c .before .is-usable .result) (c .if1 .taken)) at (next (c .before)))

@@ -1,6 +1,8 @@
 -- `opening_reading::payload_verdict` meets its contract: each `return` is the first rule of the payload that refuses, or the covered entries, or none.
 use mathlib.Core.Path.{_≡_, sym, ap, _∙_}
-use mathlib.Core.Bool.{true, false, not}
+use mathlib.Core.Bool.{false}
+use mathlib.Core.List.{[], _∷_}
+use mathlib.Core.Option.{none}
 use Prim.Native.Nat.{suc, _+_, _-_, _*_, _≤_}
 use native.Mathlib.Numerals.{add-one}
 use native.Mathlib.Omega.{arith}
@@ -10,16 +12,10 @@ use lib.ListN.{take, drop}
 use Rattle.crc.specs.Crc.{crc32}
 use Rattle.sector.specs.Item.{crcStart}
 use Rattle.sector.specs.Layout.{entrySize, entriesOf, sizeOf}
-use Rattle.opening_reading.specs.Reading.{covered, joined, sizeTooBig, payloadCrcWrong}
+use Rattle.opening_reading.specs.Reading.{SizeTooBig, PayloadCrcWrong, firstRule, covered, joined, sizeTooBig, payloadCrcWrong}
 use Rattle.opening_reading.proofs.Entries.{take-joined}
 use Rattle.opening_reading.proofs.payload_verdict.Statement.{statement}
 use Rattle.opening_reading.proofs.payload_verdict.Tie as tie
-
-too-big : (c : tie.Then1) → sizeTooBig (c .before .before .before .args .t4) ≡ true
-too-big c =
-    let entry = c .before .before .before .args .t4 in
-    let size = c .before .size-of .ensures .0 in
-    lt-ltb (entrySize * covered entry) (sizeOf entry) (omega arith)
 
 sized : (c : tie.Else1) → sizeTooBig (c .before .before .before .args .t4) ≡ false
 sized c =
@@ -47,49 +43,39 @@ payload-crc c =
     ∙ rw (long, placed .entry-address .ensures, add-one (args .index))
     (sym (ap (crc32 crcStart) (take-joined image (args .index) (covered (args .t4)) (sizeOf (args .t4)) covers fits))))
 
-payload-wrong : (c : tie.Then2)
+-- past the payload's tests the covered entries decide
+sound : (c : tie.Else2)
     → let args = c .before .before .before .before .before .before .before .before .before .args in
-    payloadCrcWrong (args .t4) (take (covered (args .t4)) (drop (args .index + 1) (entriesOf (args .image .now)))) ≡ true
-payload-wrong c =
-    let crc = payload-crc (c .before .before .before) in
-    let stored = c .before .number-at .ensures in
-    ap not (ne-eqb _ _ (λ e. c .if2 .taken (sym crc ∙ e ∙ sym stored)))
-
-payload-right : (c : tie.Else2)
-    → let args = c .before .before .before .before .before .before .before .before .before .args in
-    payloadCrcWrong (args .t4) (take (covered (args .t4)) (drop (args .index + 1) (entriesOf (args .image .now)))) ≡ false
-payload-right c =
-    let crc = payload-crc (c .before .before .before) in
-    let stored = c .before .number-at .ensures in
-    ap not (eq-eqb _ _ (crc ∙ c .if2 .left ∙ stored))
+    firstRule
+    ((sizeTooBig (args .t4), SizeTooBig)
+    ∷ (payloadCrcWrong (args .t4) (take (covered (args .t4)) (drop (args .index + 1) (entriesOf (args .image .now)))), PayloadCrcWrong)
+    ∷ [])
+    ≡ none
+sound c =
+    let paid = c .before .before .before in
+    rw (sized (paid .before .before .before), eq-eqb _ _ (payload-crc paid ∙ c .if2 .left ∙ c .before .number-at .ensures))
 
 returns : tie.Need-returns
-returns c = rw (too-big c)
+returns c =
+    let entry = c .before .before .before .args .t4 in
+    let size = c .before .size-of .ensures .0 in
+    rw (lt-ltb (entrySize * covered entry) (sizeOf entry) (omega arith))
 
 returns-2 : tie.Need-returns-2
 returns-2 c =
     let paid = c .before .before .before in
-    rw (sized (paid .before .before .before), payload-wrong c)
+    let stored = c .before .number-at .ensures in
+    rw (sized (paid .before .before .before), ne-eqb _ _ (λ e. c .if2 .taken (sym (payload-crc paid) ∙ e ∙ sym stored)))
 
 returns-3 : tie.Need-returns-3
 returns-3 c =
-    let sound = c .before .before in
-    let paid = sound .before .before .before in
-    rw (
-      sized (paid .before .before .before),
-      payload-right sound,
-      sym (c .before .all-usable .ensures) ∙ not-true (c .before .all-usable .result) (c .if3 .taken),
-    )
+    let tested = c .before in
+    rw (sound (tested .before), sym (tested .all-usable .ensures) ∙ not-true (tested .all-usable .result) (c .if3 .taken))
 
 returns-4 : tie.Need-returns-4
 returns-4 c =
-    let sound = c .before .before in
-    let paid = sound .before .before .before in
-    rw (
-      sized (paid .before .before .before),
-      payload-right sound,
-      sym (c .before .all-usable .ensures) ∙ not-false (c .before .all-usable .result) (c .if3 .left),
-    )
+    let tested = c .before in
+    rw (sound (tested .before), sym (tested .all-usable .ensures) ∙ not-false (tested .all-usable .result) (c .if3 .left))
 
 pub payload-verdict-spec : {M : Type 1} → statement M
 payload-verdict-spec =

@@ -4,34 +4,22 @@ use borrow.Author.Needs.{needs}
 use Rattle.opening_reading.proofs.verdict_at.Statement.{statement}
 use Rattle.opening_reading.proofs.verdict_at.Tie as tie
 
-enum-told : tie.Need-enum-told
-enum-told c = search needs
-
-returns : tie.Need-returns
-returns c = rw (sym (c .before .before .state-at .ensures) ∙ c .enum-told .given .1)
-
 returns-2 : tie.Need-returns-2
 returns-2 c =
     let told = c .before in
     rw (sym (told .before .before .state-at .ensures) ∙ told .enum-told2 .given .1) (c .written-verdict .ensures)
-
-returns-3 : tie.Need-returns-3
-returns-3 c = rw (sym (c .before .before .state-at .ensures) ∙ c .enum-told3 .given .1)
-
-returns-4 : tie.Need-returns-4
-returns-4 c = rw (sym (c .before .before .state-at .ensures) ∙ c .enum-told4 .given .1)
 
 pub verdict-at-spec : {M : Type 1} → statement M
 verdict-at-spec =
     tie.close
     (tie.spec
     (λ c κs. search needs)
-    enum-told
+    (λ c. search needs)
     (λ c. search needs)
     (λ c κs. search needs)
     (λ c. search needs)
     (λ c. search needs)
-    returns
+    (λ c. rw (sym (c .before .before .state-at .ensures) ∙ c .enum-told .given .1))
     returns-2
-    returns-3
-    returns-4)
+    (λ c. rw (sym (c .before .before .state-at .ensures) ∙ c .enum-told3 .given .1))
+    (λ c. rw (sym (c .before .before .state-at .ensures) ∙ c .enum-told4 .given .1)))

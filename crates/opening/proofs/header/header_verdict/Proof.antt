@@ -1,13 +1,14 @@
 -- `header::header_verdict` meets its contract: each `return` is the first rule of the header that decides.
 use mathlib.Core.Path.{_≡_, refl, sym, ap, _∙_}
-use mathlib.Core.Bool.{true, false, false≢true}
+use mathlib.Core.Bool.{true, false, not, cond}
+use lib.Dec.{eqb}
 use borrow.Author.Needs.{needs}
 use borrow.Author.Tests.{eq-eqb, ne-eqb, not-true, not-false}
 use Rattle.sector.specs.declared.PageState.{PageState}
 use Rattle.sector.specs.declared.PageState.the-variants.{Uninitialized, Active, Full, Freeing, Corrupt, Invalid}
 use Rattle.sector.specs.Header.{stateOfWord, headerCrc, isUninitialized, isInUse}
 use Rattle.sector.specs.Layout.{stateWord, versionOf, storedHeaderCrc}
-use Rattle.opening.specs.Opening.{headerVerdictOf}
+use Rattle.opening.specs.Opening.{Opens, WrongVersion, WrongHeaderCrc, headerVerdictOf}
 use Rattle.opening.proofs.header.header_verdict.Statement.{statement}
 use Rattle.opening.proofs.header.header_verdict.Tie as tie
 
@@ -24,11 +25,24 @@ opens c = ap isInUse (state (c .before .before .before)) ∙ sym (c .is-in-use .
 
 uninitialized-shut : (s : PageState) → isUninitialized s ≡ true → isInUse s ≡ false
 uninitialized-shut Uninitialized e = refl
-uninitialized-shut Active e = absurd (false≢true e)
-uninitialized-shut Full e = absurd (false≢true e)
-uninitialized-shut Freeing e = absurd (false≢true e)
+uninitialized-shut Active e = cc
+uninitialized-shut Full e = cc
+uninitialized-shut Freeing e = cc
 uninitialized-shut Corrupt e = refl
 uninitialized-shut Invalid e = refl
+
+-- past the state's tests version and CRC decide
+in-use : (c : tie.Else3)
+    → let image = c .before .before .before .before .before .before .before .args .image .now in
+    headerVerdictOf image
+    ≡ cond (not (eqb (versionOf image) 0xFE)) WrongVersion (cond (not (eqb (headerCrc image) (storedHeaderCrc image))) WrongHeaderCrc Opens)
+unfolding headerVerdictOf
+in-use c =
+    let begun = c .before .before in
+    rw (
+      uninitialized (begun .before) ∙ begun .if1 .left,
+      opens (c .before) ∙ not-false (c .before .is-in-use .result) (c .if3 .left),
+    )
 
 returns : tie.Need-returns
 unfolding headerVerdictOf
@@ -55,45 +69,26 @@ returns-3 c =
     rw (uninitialized (begun .before) ∙ begun .if1 .left, opens (c .before) ∙ not-true (c .before .is-in-use .result) (c .if3 .taken))
 
 returns-4 : tie.Need-returns-4
-unfolding headerVerdictOf
-returns-4 c =
-    let opened = c .before .before in
-    let begun = opened .before .before in
-    let image = begun .before .before .before .before .before .args .image .now in
-    rw (
-      uninitialized (begun .before) ∙ begun .if1 .left,
-      opens (opened .before) ∙ not-false (opened .before .is-in-use .result) (opened .if3 .left),
-      ne-eqb (versionOf image) 0xFE (c .if4 .taken),
-    )
+returns-4 c = rw (in-use (c .before .before), ne-eqb _ 0xFE (c .if4 .taken))
 
 returns-5 : tie.Need-returns-5
-unfolding headerVerdictOf
 returns-5 c =
     let summed = c .before .before in
     let versed = summed .before in
-    let opened = versed .before .before in
-    let begun = opened .before .before in
-    let image = begun .before .before .before .before .before .args .image .now in
     rw (
-      uninitialized (begun .before) ∙ begun .if1 .left,
-      opens (opened .before) ∙ not-false (opened .before .is-in-use .result) (opened .if3 .left),
-      eq-eqb (versionOf image) 0xFE (versed .if4 .left),
-      ne-eqb (headerCrc image) (storedHeaderCrc image) (λ e. c .if5 .taken (summed .crc-of .ensures ∙ e ∙ sym (c .before .number-at2 .ensures))),
+      in-use (versed .before .before),
+      eq-eqb _ 0xFE (versed .if4 .left),
+      ne-eqb (headerCrc _) _ (λ e. c .if5 .taken (summed .crc-of .ensures ∙ e ∙ sym (c .before .number-at2 .ensures))),
     )
 
 returns-6 : tie.Need-returns-6
-unfolding headerVerdictOf
 returns-6 c =
     let summed = c .before .before in
     let versed = summed .before in
-    let opened = versed .before .before in
-    let begun = opened .before .before in
-    let image = begun .before .before .before .before .before .args .image .now in
     rw (
-      uninitialized (begun .before) ∙ begun .if1 .left,
-      opens (opened .before) ∙ not-false (opened .before .is-in-use .result) (opened .if3 .left),
-      eq-eqb (versionOf image) 0xFE (versed .if4 .left),
-      eq-eqb (headerCrc image) (storedHeaderCrc image) (sym (summed .crc-of .ensures) ∙ c .if5 .left ∙ c .before .number-at2 .ensures),
+      in-use (versed .before .before),
+      eq-eqb _ 0xFE (versed .if4 .left),
+      eq-eqb (headerCrc _) _ (sym (summed .crc-of .ensures) ∙ c .if5 .left ∙ c .before .number-at2 .ensures),
     )
 
 pub header-verdict-spec : {M : Type 1} → statement M

@@ -17,12 +17,6 @@ counted c =
     let map = c .before .before .before .before .before .before .args .map in
     rw (← c .get-entry-statistics .ensures) at (statistics-sum map (omega arith))
 
-cast-used : tie.Need-cast-used
-cast-used c = omega (arith, counted (c .before))
-
-cast-erased : tie.Need-cast-erased
-cast-erased c = omega (arith, counted (c .before .before))
-
 returns : tie.Need-returns
 unfolding headerRecord statistics
 returns c =
@@ -44,7 +38,7 @@ header-record-spec =
     (λ c κs. search needs)
     (λ c κs. search needs)
     (λ c κs. search needs)
-    cast-used
-    cast-erased
+    (λ c. omega (arith, counted (c .before)))
+    (λ c. omega (arith, counted (c .before .before)))
     (λ c. search needs)
     returns)

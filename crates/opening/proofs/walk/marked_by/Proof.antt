@@ -11,18 +11,6 @@ refused-fits c = rw (c .verdict .given .1) at (c .before .before .pre)
 kept-fits : (c : tie.After-verdict2) → c .before .before .args .index + c .verdict2 .given .0 .0 < 126
 kept-fits c = rw (c .verdict2 .given .1) at (c .before .before .pre)
 
-add-mark-range : tie.Need-add-mark-range
-add-mark-range c = omega (arith, refused-fits (c .before))
-
-mark-range-requires-2 : tie.Need-mark-range-requires-2
-mark-range-requires-2 c κs = omega (arith, refused-fits (c .before))
-
-add-mark-range-2 : tie.Need-add-mark-range-2
-add-mark-range-2 c = omega (arith, kept-fits (c .before))
-
-mark-range-requires-3 : tie.Need-mark-range-requires-3
-mark-range-requires-3 c κs = omega (arith, kept-fits (c .before))
-
 returns-2 : tie.Need-returns-2
 returns-2 c = rw (c .before .enum-told2 .given .1) (c .mark-range .ensures)
 
@@ -40,11 +28,11 @@ marked-by-spec =
     (λ c. search needs)
     (λ c κs. search needs)
     (λ c. search needs)
-    add-mark-range
-    mark-range-requires-2
+    (λ c. omega (arith, refused-fits (c .before)))
+    (λ c κs. omega (arith, refused-fits (c .before)))
     (λ c. search needs)
-    add-mark-range-2
-    mark-range-requires-3
+    (λ c. omega (arith, kept-fits (c .before)))
+    (λ c κs. omega (arith, kept-fits (c .before)))
     (λ c. search needs)
     returns-2
     returns-3

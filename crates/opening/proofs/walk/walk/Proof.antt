@@ -83,12 +83,12 @@ returns c =
     let start = at .before .before .before in
     let image = start .args .image .now in
     let map = start .args .map in
-    let end : at .loop .index ≡ 126 = omega arith in (
-      marked-end image map (at .loop .marked) (at .loop .index) (long start) end (at .loop .inv .1),
-      at .loop .inv .1 .spare,
-      heads-end image map (at .loop .heads) (at .loop .index) (long start) end (at .loop .inv .2),
-      listed-end image map (at .loop .listing) (at .loop .index) (long start) end (at .loop .inv .3),
-    )
+    let end : at .loop .index ≡ 126 = omega arith in
+    record {
+      marks = marked-end image map (at .loop .marked) (at .loop .index) (long start) end (at .loop .inv .1);
+      heads = heads-end image map (at .loop .heads) (at .loop .index) (long start) end (at .loop .inv .2);
+      listing = listed-end image map (at .loop .listing) (at .loop .index) (long start) end (at .loop .inv .3);
+    }
 
 pub walk-spec : {M : Type 1} → statement M
 walk-spec =
