@@ -12,7 +12,10 @@ use Rattle.page.specs.declared.ThinPage.{ThinPage}
 use Rattle.page.specs.Writing.{outcome, stops}
 use Rattle.sector.specs.declared.Answer.the-variants.{Done, Stopped}
 use Rattle.sector.specs.Answers.{Check, accepted}
-use Rattle.theorem_writing.proofs.Answers.{answersRefusal, stopped-only, done-only}
+use Rattle.theorem_writing.specs.Promises.{checksOf, planOf, newOf}
+use Rattle.theorem_writing.proofs.Answers.{answersRefusal, checks-refuse, stopped-only, done-only, told-put}
+use Rattle.theorem_power_cut.specs.History.{AppendOrCopy, callOf, putRequest}
+use Rattle.theorem_power_cut.specs.PowerCut.{Begins}
 
 module _ (checks : List Check) (refuse : every answersRefusal checks ≡ true) (stopped : Bool) (page new : ThinPage) where
   pub begins-accepted : (outcome checks stopped page new .answer ≡ Done) ⊎ (outcome checks stopped page new .answer ≡ Stopped) → accepted checks ≡ true
@@ -28,3 +31,9 @@ module _ (checks : List Check) (refuse : every answersRefusal checks ≡ true) (
 -- the whole plan was done
 pub done-plan : (n : ℕ) (plan : List Unit4) → stops n plan ≡ false → take n plan ≡ plan
 done-plan n plan e = take-all n plan (ltb-false n (length plan) e)
+
+-- a write that begins is accepted
+pub write-accepted : (write : AppendOrCopy) (image : List ℕ) (page : ThinPage) (n : ℕ) → Begins write image page n → accepted (checksOf (callOf write) image page) ≡ true
+write-accepted write image page n b =
+    begins-accepted (checksOf (callOf write) image page) (checks-refuse (callOf write) image page) (stops n (planOf (callOf write) image page)) page (newOf (callOf write) page)
+    (rw (told-put (putRequest write) image page n .0) at b)

@@ -107,7 +107,7 @@ module _ {image : List ℕ} {items : List Item} (p : Standing image items) {entr
       ∙ ap (λ (tail : States). p .front ++ tail) (sym (replicate-append-replicate span left Empty))
 
   -- all marks set
-  marked-states : marked Written start span (statesOf (p .map)) ≡ p .front ++ (replicate span Written ++ replicate left Empty)
+  pub marked-states : marked Written start span (statesOf (p .map)) ≡ p .front ++ (replicate span Written ++ replicate left Empty)
   marked-states =
       ap (marked Written start span) states-before
       ∙ marked-at Written (p .front) (replicate span Empty ++ replicate left Empty) span
@@ -255,7 +255,7 @@ module _ {image : List ℕ} {items : List Item} (p : Standing image items) {entr
   abbrev front′ : States
   front′ = p .front ++ replicate span Written
 
-  front′-size : length front′ ≡ start + span
+  pub front′-size : length front′ ≡ start + span
   front′-size = length-append (p .front) (replicate span Written) ∙ ap (λ (n : ℕ). start + n) (length-replicate span Written)
 
   abbrev pub header-after : List ℕ
@@ -275,20 +275,20 @@ module _ {image : List ℕ} {items : List Item} (p : Standing image items) {entr
       ∙ run-inside (p .header) (map ++ rest) (within-full (start + span)) (omega (arith, p .header-size))
       ∙ ap (λ (entries : List ℕ). run full (p .header) ++ (map ++ entries)) (sym (append-assoc (p .used) (w .laid) behind))
 
-  entries′ : chunks (length front′) (p .used ++ w .laid) ≡ chunks start (p .used) ++ (entry ∷ new)
+  pub entries′ : chunks (length front′) (p .used ++ w .laid) ≡ chunks start (p .used) ++ (entry ∷ new)
   entries′ =
       ap (λ (n : ℕ). chunks n (p .used ++ w .laid)) front′-size
       ∙ chunks-append start span (p .used) (w .laid) (p .used-size)
       ∙ ap (λ (last : Entries). chunks start (p .used) ++ last) (w .laid-entries)
 
-  kept′ : keptFrom zero zero front′ (chunks start (p .used) ++ (entry ∷ new)) ≡ items ++ (item start (entry ∷ new) ∷ [])
+  pub kept′ : keptFrom zero zero front′ (chunks start (p .used) ++ (entry ∷ new)) ≡ items ++ (item start (entry ∷ new) ∷ [])
   kept′ =
       let marking : Marking entry (replicate (length new) Written) new =
       record { whole = w .whole; covers = length-replicate (length new) Written; started = all-usable (length new) } in
       (rw (append-nil (replicate (length new) Written), append-nil new) at (kept-marked (p .closed) marking 0 []))
       ∙ ap (λ (earlier : List Item). earlier ++ (item start (entry ∷ new) ∷ [])) (p .kept)
 
-  pub standing-after : Standing (run plan image) (items ++ (item start (entry ∷ new) ∷ []))
+  unfoldable pub standing-after : Standing (run plan image) (items ++ (item start (entry ∷ new) ∷ []))
   standing-after =
       record {
         header = header-after;
@@ -308,15 +308,3 @@ module _ {image : List ℕ} {items : List Item} (p : Standing image items) {entr
         closed = rw entries′ (closed-append-item (p .closed) (w .whole));
         kept = rw entries′ kept′;
       }
-
-  pub after-header : standing-after .header ≡ header-after
-  unfolding standing-after
-  after-header = refl
-
-  pub after-map : standing-after .map ≡ markRange Written start span (p .map)
-  unfolding standing-after
-  after-map = refl
-
-  pub after-front : standing-after .front ≡ p .front ++ replicate span Written
-  unfolding standing-after
-  after-front = refl

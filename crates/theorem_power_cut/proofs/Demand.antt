@@ -21,7 +21,6 @@ use Rattle.call_erase.specs.Erase.{eraseChecks, erasePlan, erase, eraseImage}
 use Rattle.opening_reading.specs.Reading.{Item, item}
 use Rattle.opening.specs.Opening.{headerVerdictOf, keptItems, opening, openingImage}
 use Rattle.opening.specs.declared.HeaderVerdict.the-variants.{Blank}
-use Rattle.theorem_reopening.proofs.KeptItem.{member-split}
 use Rattle.theorem_writing.specs.Promises.{SetsNoBit, erasing, outcomeOf, imageOf, entryUnits}
 use Rattle.theorem_writing.proofs.Promises.{only-clears-bits}
 use Rattle.theorem_power_cut.specs.History.{AppendOrCopy, entriesOfWrite, newItem, withoutItem, History, opened, written, erased, callOf, putRequest}
@@ -29,27 +28,43 @@ use Rattle.theorem_power_cut.specs.PowerCut.{FindsWhatWasPut, Begins, Ab
 use Rattle.theorem_power_cut.proofs.Standing.{Standing, standing-size, standing-kept, standing-plan}
 use Rattle.theorem_power_cut.proofs.Begun.{within-full}
 use Rattle.theorem_power_cut.proofs.AtHand.{standing-page}
-use Rattle.theorem_power_cut.proofs.Headers.{opens-of}
+use Rattle.theorem_power_cut.proofs.Headers.{HeaderOpens, opens-of}
 use Rattle.theorem_power_cut.proofs.Accepted.{begins-accepted, done-page}
 use Rattle.theorem_power_cut.proofs.Started.{page as at-hand, next-is, Started, started}
 use Rattle.theorem_power_cut.proofs.Held.{Held, Known, held, blank, blank-kept, opened-known}
 use Rattle.theorem_power_cut.proofs.Steps.{blank-refuses, opens-split, header-opens-here, cut-opens, cut-kept, done-held}
-use Rattle.theorem_power_cut.proofs.Erasing.{some, fits, run-erase, erased-standing, erased-header, erased-map, erased-front, with-erased}
+use Rattle.theorem_power_cut.proofs.Erasing.{some, fits, run-erase, erased-standing, with-erased}
 
 -- ---- every point of a history is known
+
+-- a write begins on a page that is held, not on an erased one: so what follows of the page at hand holds
+begun : {image : List ℕ} {page : ThinPage} {items : List Item} (write : AppendOrCopy) (n : ℕ) (holds : ThinPage → Type 0)
+    → ((p : Standing image items) → HeaderOpens image → Started p write n → holds (at-hand p))
+    → Known image page items → Begins write image page n → holds page
+begun {image} write n holds follows (held h) b =
+    subst (λ (page : ThinPage). Begins write image page n → holds page) (sym (h .page-is))
+    (λ b. follows (h .standing) (h .opens) (started (h .standing) write n b))
+    b
+begun {image} write n holds follows (blank i p e) b =
+    absurd (blank-refuses write image n (subst (λ (page : ThinPage). Begins write image page n) p b))
 
 written-known : {image : List ℕ} {page : ThinPage} {items : List Item} → Known image page items → (write : AppendOrCopy) (n : ℕ)
     → outcomeOf (callOf write) image page n .answer ≡ Done
     → Known (imageOf (callOf write) image page n) (outcomeOf (callOf write) image page n .page) (items ++ (newItem write page ∷ []))
-written-known {image} {page} {items} (held h) write n d =
-    subst
-    (λ (at-hand : ThinPage). outcomeOf (callOf write) image at-hand n .answer ≡ Done
-    → Known (imageOf (callOf write) image at-hand n) (outcomeOf (callOf write) image at-hand n .page) (items ++ (newItem write at-hand ∷ [])))
-    (sym (h .page-is))
-    (λ d. held (done-held (h .standing) (h .opens) (started (h .standing) write n (inl d)) d))
-    d
-written-known {image} (blank i p e) write n d =
-    absurd (blank-refuses write image n (subst (λ (at-hand : ThinPage). Begins write image at-hand n) p (inl d)))
+written-known {image} {items = items} k write n d =
+    begun write n
+    (λ page. outcomeOf (callOf write) image page n .answer ≡ Done
+    → Known (imageOf (callOf write) image page n) (outcomeOf (callOf write) image page n .page) (items ++ (newItem write page ∷ [])))
+    (λ p o s d. held (done-held p o s d)) k (inl d) d
+
+-- an item is erased of a page that is held, too
+erasure : {image : List ℕ} {page : ThinPage} {items : List Item} (index : ℕ) (entries : List (List ℕ)) (holds : ThinPage → Type 0)
+    → List·Memᴰ (item index entries) items
+    → ((p : Standing image items) → HeaderOpens image → erase image (at-hand p) index (length entries) .answer ≡ Done → holds (at-hand p))
+    → Known image page items → erase image page index (length entries) .answer ≡ Done → holds page
+erasure {image} index entries holds m follows (held h) d =
+    subst (λ (page : ThinPage). erase image page index (length entries) .answer ≡ Done → holds page) (sym (h .page-is)) (follows (h .standing) (h .opens)) d
+erasure index entries holds m follows (blank i p e) d = absurd (List·Memᴰ·not-nil (subst (List·Memᴰ (item index entries)) e m))
 
 module _ {image : List ℕ} {items : List Item} (p : Standing image items) (index : ℕ) (entries : List (List ℕ)) where
   erase-image : erase image (at-hand p) index (length entries) .answer ≡ Done
@@ -63,35 +78,23 @@ module _ {image : List ℕ} {items : List Item} (p : Standing image items) (inde
   unfolding erase
   erase-page d = let n = length entries in done-page (eraseChecks image (at-hand p) index n) refl false (at-hand p) (withErased (at-hand p) index n) d
 
+  erased-held : (m : List·Memᴰ (item index entries) items) → HeaderOpens image
+      → Held (run (erasePlan (at-hand p) index (length entries)) image) (withErased (at-hand p) index (length entries)) (withoutItem index items)
+  unfolding erasePlan erased-standing
+  erased-held m opens =
+      record {
+        standing = erased-standing p index entries m;
+        opens = opens-split (p .header) _ (run-erase p index entries m) (p .header-size) (header-opens-here p opens);
+        page-is = with-erased p index entries m;
+      }
+
 erased-known : {image : List ℕ} {page : ThinPage} {items : List Item} → Known image page items → (index : ℕ) (entries : List (List ℕ))
     → List·Memᴰ (item index entries) items → erase image page index (length entries) .answer ≡ Done
     → Known (eraseImage image page index (length entries)) (erase image page index (length entries) .page) (withoutItem index items)
-unfolding erasePlan
-erased-known {image} {items = items} (held h) index entries m d =
-    subst
-    (λ (page : ThinPage). erase image page index (length entries) .answer ≡ Done
-    → Known (eraseImage image page index (length entries)) (erase image page index (length entries) .page) (withoutItem index items))
-    (sym (h .page-is))
-    (λ d.
-    let p = h .standing in
-    let split = member-split m in
-    let stands = erased-standing p index entries (split .0) (split .1) (split .2) in
-    rw (erase-image p index entries d, erase-page p index entries d)
-    (held
-    (record {
-      standing = stands;
-      opens =
-          opens-split (p .header) _ (run-erase p index entries (split .0) (split .1) (split .2)) (p .header-size) (header-opens-here p (h .opens));
-      page-is =
-          with-erased p index entries (split .0) (split .1) (split .2)
-          ∙ rw (
-            erased-header p index entries (split .0) (split .1) (split .2),
-            erased-map p index entries (split .0) (split .1) (split .2),
-            erased-front p index entries (split .0) (split .1) (split .2),
-          );
-    })))
-    d
-erased-known (blank i p e) index entries m d = absurd (List·Memᴰ·not-nil (subst (List·Memᴰ (item index entries)) e m))
+erased-known {image} {items = items} k index entries m d =
+    erasure index entries
+    (λ page. Known (eraseImage image page index (length entries)) (erase image page index (length entries) .page) (withoutItem index items)) m
+    (λ p o d. rw (erase-image p index entries d, erase-page p index entries d) (held (erased-held p index entries m o))) k d
 
 pub known : {image : List ℕ} {page : ThinPage} {items : List Item} → History image page items → Known image page items
 known (opened {image} sector d) = opened-known image sector d
@@ -133,20 +136,11 @@ finds-what-was-put image page items h = by-known (known h)
     by-known (blank i p e) = (ap keptItems i ∙ blank-kept ∙ sym e, ap opening i ∙ blank-opening ∙ ap (answered Done) (sym p), ap openingImage i ∙ blank-image ∙ sym i)
 
 pub absent-or-whole : AbsentOrWhole
-absent-or-whole image page items h write n b = by-known (known h) b
-  where
-    by-known : Known image page items → Begins write image page n
-        → (opening (imageOf (callOf write) image page n) .answer ≡ Done)
-        × (keptItems (imageOf (callOf write) image page n) ≡ cond (leb n (length (entryUnits (putRequest write) page))) items (items ++ (newItem write page ∷ [])))
-    by-known (held h) b =
-        subst
-        (λ (at-hand : ThinPage). Begins write image at-hand n
-        → (opening (imageOf (callOf write) image at-hand n) .answer ≡ Done)
-        × (keptItems (imageOf (callOf write) image at-hand n) ≡ cond (leb n (length (entryUnits (putRequest write) at-hand))) items (items ++ (newItem write at-hand ∷ []))))
-        (sym (h .page-is))
-        (λ b. let s = started (h .standing) write n b in (cut-opens (h .standing) (h .opens) s, cut-kept (h .standing) (h .opens) s))
-        b
-    by-known (blank i p e) b = absurd (blank-refuses write image n (subst (λ (at-hand : ThinPage). Begins write image at-hand n) p b))
+absent-or-whole image page items h write n b =
+    begun write n
+    (λ page. (opening (imageOf (callOf write) image page n) .answer ≡ Done)
+    × (keptItems (imageOf (callOf write) image page n) ≡ cond (leb n (length (entryUnits (putRequest write) page))) items (items ++ (newItem write page ∷ []))))
+    (λ p o s. (cut-opens p o s, cut-kept p o s)) (known h) b
 
 -- ---- bits and other entries
 
@@ -180,48 +174,25 @@ module _ {image : List ℕ} {items : List Item} (p : Standing image items) {writ
       here (inl h) = inl (omega (arith, next-is p))
       here (inr h) = inr (omega (arith, next-is p, ap length (s .entries-is)))
 
-abbrev Unaltered : AppendOrCopy → ℕ → List ℕ → ThinPage → Type 0
-Unaltered write n image page =
-    SetsNoBit image (imageOf (callOf write) image page n)
-    × ((i : ℕ) → i < 126 → (i < nextFree page) ⊎ (nextFree page + length (entriesOfWrite write) ≤ i) → entryAt (imageOf (callOf write) image page n) i ≡ entryAt image i)
-
 pub alters-no-other-entry : AltersNoOtherEntry
-alters-no-other-entry image page items h write n b = by-known (known h) b
-  where
-    by-known : Known image page items → Begins write image page n → Unaltered write n image page
-    by-known (held h) b =
-        subst (λ (page : ThinPage). Begins write image page n → Unaltered write n image page) (sym (h .page-is))
-        (λ b. let s = started (h .standing) write n b in (only-clears-bits (callOf write) image (at-hand (h .standing)) n, λ i l away. write-entries (h .standing) s i away))
-        b
-    by-known (blank i p e) b = absurd (blank-refuses write image n (subst (λ (page : ThinPage). Begins write image page n) p b))
+alters-no-other-entry image page items h write n b =
+    begun write n
+    (λ page. SetsNoBit image (imageOf (callOf write) image page n)
+    × ((i : ℕ) → i < 126 → (i < nextFree page) ⊎ (nextFree page + length (entriesOfWrite write) ≤ i) → entryAt (imageOf (callOf write) image page n) i ≡ entryAt image i))
+    (λ p o s. (only-clears-bits (callOf write) image (at-hand p) n, λ i l away. write-entries p s i away)) (known h) b
 
-abbrev MarksAlone : ℕ → List (List ℕ) → List ℕ → ThinPage → Type 0
-MarksAlone index entries image page =
-    SetsNoBit image (eraseImage image page index (length entries))
-    × ((i : ℕ) → i < 126 → entryAt (eraseImage image page index (length entries)) i ≡ entryAt image i)
-
-marks-alone : {image : List ℕ} {items : List Item} (p : Standing image items) (index : ℕ) (entries : List (List ℕ)) → List·Memᴰ (item index entries) items
-    → erase image (at-hand p) index (length entries) .answer ≡ Done → MarksAlone index entries image (at-hand p)
+pub erases-marks-alone : ErasesMarksAlone
 unfolding erasePlan
-marks-alone {image} p index entries m d =
-    let split = member-split m in
+erases-marks-alone image page items h index entries m d =
     let n = length entries in
-    let plan = erasePlan (at-hand p) index n in
-    let one = some p index entries (split .0) (split .1) (split .2) in
-    let inside = fits p index entries (split .0) (split .1) (split .2) in (
+    erasure index entries
+    (λ page. SetsNoBit image (eraseImage image page index n) × ((i : ℕ) → i < 126 → entryAt (eraseImage image page index n) i ≡ entryAt image i)) m
+    (λ p o d. (
       only-clears-bits (erasing index n) image (at-hand p) 0,
       λ i l.
           ap (λ (after : List ℕ). entryAt after i) (erase-image p index entries d)
           ∙ take-drop-run (entryAddress i) 32 image
-          (outside-within (entryAddress i) (entryAddress i + 32) (inl (omega arith)) (within-mapUnits index n _ one (omega (arith, inside, p .sum)))),
-    )
-
-pub erases-marks-alone : ErasesMarksAlone
-erases-marks-alone image page items h index entries m d = by-known (known h) d
-  where
-    by-known : Known image page items → erase image page index (length entries) .answer ≡ Done → MarksAlone index entries image page
-    by-known (held h) d =
-        subst (λ (page : ThinPage). erase image page index (length entries) .answer ≡ Done → MarksAlone index entries image page) (sym (h .page-is))
-        (λ d. marks-alone (h .standing) index entries m d)
-        d
-    by-known (blank i p e) d = absurd (List·Memᴰ·not-nil (subst (List·Memᴰ (item index entries)) e m))
+          (outside-within (entryAddress i) (entryAddress i + 32) (inl (omega arith))
+          (within-mapUnits index n _ (some p index entries m) (omega (arith, fits p index entries m, p .sum)))),
+    ))
+    (known h) d

@@ -3,7 +3,7 @@
 -- In order: the items and the list without an index; the page and the record behind.
 use mathlib.Core.Path.{_≡_, refl, sym, ap, ap₂, _∙_, subst}
 use mathlib.Core.Bool.{Bool, true, false, cond}
-use mathlib.Core.List.{List, [], _∷_, _++_}
+use mathlib.Core.List.{List, [], _∷_, _++_, List·Memᴰ}
 use Prim.Native.Nat.{ℕ, zero, suc, _+_, _-_, _*_, _≤_, _<_}
 use native.Mathlib.Nat.{zero-add}
 use native.Mathlib.Omega.{arith}
@@ -24,11 +24,11 @@ use Rattle.sector.proofs.Marks.{marked, marked-inside, length-marked, countIn-e
 use Rattle.opening_reading.specs.Reading.{Item, item, keptFrom}
 use Rattle.opening.specs.Opening.{headerOf, listedItems}
 use Rattle.opening_reading.proofs.Verdicts.{States, Entries}
-use Rattle.theorem_reopening.proofs.KeptItem.{Place, place, closed-erase, kept-erase, place-fits, Indices, indices-nil, indices-cons, indices-before, indices-after}
+use Rattle.theorem_reopening.proofs.KeptItem.{Place, place, closed-erase, kept-erase, place-fits, Indices, indices-nil, indices-cons, indices-before, indices-after, member-split}
+use Rattle.theorem_reopening.proofs.OpenedFront.{count-closed}
 use Rattle.theorem_power_cut.specs.History.{withoutItem}
 use Rattle.theorem_power_cut.proofs.Standing.{Standing, standing-map-bytes}
 use Rattle.theorem_power_cut.proofs.AtHand.{pageOf}
-use Rattle.theorem_power_cut.proofs.Started.{counted}
 
 -- ---- without an index
 
@@ -88,13 +88,18 @@ all-written (suc n) = all-written n
 in-use : (places : List Listed) → take (length places) (padded places) ≡ places
 in-use places = take-at places (replicate (126 - length places) noItem) (length places) refl
 
-module _ {image : List ℕ} {items : List Item} (p : Standing image items) (j : ℕ) (group : Entries) (before after : List Item)
-    (items-are : items ≡ before ++ (item j group ∷ after)) where
+module _ {image : List ℕ} {items : List Item} (p : Standing image items) (j : ℕ) (group : Entries) (m : List·Memᴰ (item j group) items) where
   abbrev n : ℕ
   n = length group
 
-  here : Place zero zero j group before after (p .front) (chunks (length (p .front)) (p .used))
-  here = place zero j group before after (p .closed) (p .kept ∙ items-are)
+  abbrev before : List Item
+  before = member-split m .0
+
+  abbrev after : List Item
+  after = member-split m .1
+
+  pub here : Place zero zero j group before after (p .front) (chunks (length (p .front)) (p .used))
+  here = place zero j group before after (p .closed) (p .kept ∙ member-split m .2)
 
   pub some : 1 ≤ n
   some = omega (arith, ap length (here .header-first))
@@ -105,7 +110,7 @@ module _ {image : List ℕ} {items : List Item} (p : Standing image items) (j : 
   abbrev front′ : States
   front′ = marked Erased j n (p .front)
 
-  front-length : length front′ ≡ length (p .front)
+  pub front-length : length front′ ≡ length (p .front)
   front-length = length-marked Erased j n (p .front)
 
   abbrev map′ : List ℕ
@@ -119,10 +124,10 @@ module _ {image : List ℕ} {items : List Item} (p : Standing image items) (j : 
       ap (run (mapUnits j n map′)) (p .split)
       ∙ run-mapUnits Erased j n (p .header) (p .map) rest (p .header-size) (p .map-size) (subst Bytes (p .split) (p .bytes)) some (omega (arith, fits, p .sum))
 
-  kept-others : keptFrom zero zero front′ (chunks (length (p .front)) (p .used)) ≡ withoutItem j items
-  kept-others = kept-erase here ∙ sym (without-place here) ∙ ap (withoutItem j) (sym items-are)
+  pub kept-others : keptFrom zero zero front′ (chunks (length (p .front)) (p .used)) ≡ withoutItem j items
+  kept-others = kept-erase here ∙ sym (without-place here) ∙ ap (withoutItem j) (sym (member-split m .2))
 
-  pub erased-standing : Standing (run (mapUnits j n map′) image) (withoutItem j items)
+  unfoldable pub erased-standing : Standing (run (mapUnits j n map′) image) (withoutItem j items)
   erased-standing =
       record {
         header = p .header;
@@ -143,18 +148,6 @@ module _ {image : List ℕ} {items : List Item} (p : Standing image items) (j : 
         kept = rw front-length kept-others;
       }
 
-  pub erased-header : erased-standing .header ≡ p .header
-  unfolding erased-standing
-  erased-header = refl
-
-  pub erased-map : erased-standing .map ≡ map′
-  unfolding erased-standing
-  erased-map = refl
-
-  pub erased-front : erased-standing .front ≡ front′
-  unfolding erased-standing
-  erased-front = refl
-
   written-count : countIn Written front′ + n ≡ countIn Written (p .front)
   written-count =
       let written : take n (drop j (p .front)) ≡ replicate n Written =
@@ -165,8 +158,8 @@ module _ {image : List ℕ} {items : List Item} (p : Standing image items) (j : 
 
   counts : (countIn Written (p .front) - n ≡ countIn Written front′) × (countIn Erased (p .front) + n ≡ countIn Erased front′)
   counts =
-      let old = counted (p .closed) in
-      let new = counted (closed-erase here) in
+      let old = count-closed (p .closed) in
+      let new = count-closed (closed-erase here) in
       (omega (arith, written-count), omega (arith, written-count, front-length))
 
   pub with-erased : withErased (pageOf (p .header) (p .map) (p .front) items) j n ≡ pageOf (p .header) map′ front′ (withoutItem j items)

@@ -27,13 +27,12 @@ use Rattle.opening_reading.specs.Reading.{verdictAt, stepsOver, Item, item, wit
 use Rattle.opening_reading.proofs.Verdicts.{States, Entries}
 use Rattle.opening.specs.Opening.{headerOf, listedItems}
 use Rattle.theorem_writing.proofs.FitRecords.{known-state, known-fits, zero-places, hash-short}
-use Rattle.theorem_reopening.proofs.OpenedFront.{count-empties}
+use Rattle.theorem_reopening.proofs.OpenedFront.{count-closed, count-empties}
 use Rattle.theorem_reopening.proofs.KeptItem.{Indices, indices-nil, indices-cons, indices-keptFrom}
 use Rattle.theorem_power_cut.specs.PowerCut.{RecordIsFit}
 use Rattle.theorem_power_cut.proofs.Standing.{Standing}
 use Rattle.theorem_power_cut.proofs.AtHand.{pageOf}
 use Rattle.theorem_power_cut.proofs.Headers.{header-opens}
-use Rattle.theorem_power_cut.proofs.Started.{counted}
 use Rattle.theorem_power_cut.proofs.Held.{Held, Known, held, blank}
 use Rattle.theorem_power_cut.proofs.Demand.{known}
 
@@ -112,8 +111,8 @@ held-fit {items = items} h =
     rw (h .page-is)
     (fit-of at-hand
     (record {
-      counts = omega (arith, counted (p .closed), p .sum);
-      len-fits = omega (arith, counted (p .closed), few p);
+      counts = omega (arith, count-closed (p .closed), p .sum);
+      len-fits = omega (arith, count-closed (p .closed), few p);
       written-fits = omega (arith, written p);
       listed-fit = rw (take-append-seam places blanks) (places-fit p);
       behind-zero = rw (drop-append-seam places blanks) (zero-places (126 - length places));

@@ -2,7 +2,7 @@
 --
 -- In order: an erased page refuses; the header of a cut write; a write cut after n units; a write that is done.
 use mathlib.Core.Path.{_≡_, refl, sym, ap, ap₂, _∙_, subst}
-use mathlib.Core.Bool.{Bool, true, false, cond}
+use mathlib.Core.Bool.{cond, false≢true}
 use mathlib.Core.List.{List, [], _∷_, _++_}
 use Prim.Native.Nat.{ℕ, suc, _+_, _-_, _*_, _≤_, _<_}
 use native.Mathlib.Decide.{decLe}
@@ -14,48 +14,29 @@ use borrow.Author.Tests.{eq-eqb, le-leb, lt-leb}
 use Rattle.flash.specs.Flash.{Unit4, run}
 use Rattle.flash.proofs.Laws.{Bytes, bytes-take, length-run}
 use Rattle.page.specs.Record.{uninitialized}
-use Rattle.page.specs.Writing.{badImage, badRecord, fullUnits, stops}
+use Rattle.page.specs.Writing.{fullUnits}
 use Rattle.sector.specs.declared.Answer.the-variants.{Done}
 use Rattle.sector.specs.declared.PageState.the-variants.{Active}
 use Rattle.sector.specs.Header.{stateBytes}
-use Rattle.call_append.specs.Append.{singleChecks, singlePlan, withSingle, appendSingle, variableChecks, variablePlan, withVariable, appendVariable}
-use Rattle.call_copy.specs.Copy.{copyChecks, copyPlan, withCopy, copyIn}
 use Rattle.opening_reading.specs.Reading.{Item, item}
 use Rattle.opening.specs.Opening.{keptItems, opening}
+use Rattle.theorem_reopening.proofs.OpenedFront.{count-closed}
 use Rattle.theorem_writing.specs.Promises.{outcomeOf, imageOf, entryUnits}
-use Rattle.theorem_power_cut.specs.History.{AppendOrCopy, a-single, a-variable, a-copy, newItem, callOf, putRequest}
+use Rattle.theorem_writing.proofs.Answers.{accepts}
+use Rattle.theorem_power_cut.specs.History.{AppendOrCopy, newItem, callOf, putRequest}
 use Rattle.theorem_power_cut.specs.PowerCut.{Begins}
 use Rattle.theorem_power_cut.proofs.Standing.{Standing, standing-size, front-bytes}
-use Rattle.theorem_power_cut.proofs.Begun.{marks, plan, headerAt, restAt, image-before, image-after, headerAt-size, kept-before, kept-after, header-after, run-plan, standing-after, after-header, after-map, after-front}
+use Rattle.theorem_power_cut.proofs.Begun.{marks, plan, headerAt, restAt, image-before, image-after, headerAt-size, kept-before, kept-after, header-after, run-plan, standing-after}
 use Rattle.theorem_power_cut.proofs.AtHand.{with-item}
 use Rattle.theorem_power_cut.proofs.Headers.{HeaderOpens, opens-of, header-opens, image-opens, active-word, full-cut, full-whole, full-drop, full-opens, full-state}
-use Rattle.theorem_power_cut.proofs.Accepted.{begins-accepted}
-use Rattle.theorem_power_cut.proofs.Started.{page, start, counted, next-is, Started}
+use Rattle.theorem_power_cut.proofs.Accepted.{write-accepted}
+use Rattle.theorem_power_cut.proofs.Started.{page, start, next-is, Started}
 use Rattle.theorem_power_cut.proofs.Held.{Held}
 
 -- ---- an erased page
 
-never : (a b : Bool) → cond a false (cond b false false) ≡ true → ⊥
-never true b e = let z : _≡_ {A = ℕ} 0 1 = cc in omega arith
-never false true e = let z : _≡_ {A = ℕ} 0 1 = cc in omega arith
-never false false e = let z : _≡_ {A = ℕ} 0 1 = cc in omega arith
-
 pub blank-refuses : (write : AppendOrCopy) (image : List ℕ) (n : ℕ) → Begins write image uninitialized n → ⊥
-unfolding appendSingle appendVariable copyIn
-blank-refuses (a-single request asked) image n b =
-    never (badImage image .0) (badRecord uninitialized .0)
-    (begins-accepted (singleChecks image uninitialized request) refl (stops n (singlePlan uninitialized request)) uninitialized (withSingle uninitialized request) b)
-blank-refuses (a-variable request payload asked) image n b =
-    never (badImage image .0) (badRecord uninitialized .0)
-    (begins-accepted (variableChecks image uninitialized request payload) refl (stops n (variablePlan uninitialized request payload)) uninitialized (withVariable uninitialized request payload) b)
-blank-refuses (a-copy source index entries kept) image n b =
-    let checks = copyChecks image uninitialized source index in
-    let ok = begins-accepted checks refl (stops n (copyPlan uninitialized source index)) uninitialized (withCopy uninitialized source index) b in
-    past (badImage image .0) ok
-  where
-    past : (a : Bool) → cond a false (cond (badImage source .0) false (cond (badRecord uninitialized .0) false false)) ≡ true → ⊥
-    past true e = let z : _≡_ {A = ℕ} 0 1 = cc in omega arith
-    past false e = never (badImage source .0) (badRecord uninitialized .0) e
+blank-refuses write image n b = false≢true (accepts (putRequest write) image uninitialized (write-accepted write image uninitialized n b) .active)
 
 -- ---- the header of a write
 
@@ -118,6 +99,7 @@ module _ {image : List ℕ} {items : List Item} (p : Standing image items) (open
 
     pub done-held : outcomeOf (callOf write) image (page p) n .answer ≡ Done
         → Held (imageOf (callOf write) image (page p) n) (outcomeOf (callOf write) image (page p) n .page) (items ++ (newItem write (page p) ∷ []))
+    unfolding standing-after
     done-held d =
         let span = suc (length (s .new)) in
         let after = standing-after p (s .lays) in
@@ -130,7 +112,6 @@ module _ {image : List ℕ} {items : List Item} (p : Standing image items) (open
               opens-split (header-after p (s .lays)) _ (run-plan p (s .lays)) (length-run (fullUnits end) (p .header) ∙ p .header-size)
               (full-opens header-opens-here full);
           page-is =
-              with-item (p .header) (header-after p (s .lays)) (p .map) (p .front) items (s .entry) (s .new) span (counted (p .closed))
-              (full-state (p .header) end word) (full-drop full) (s .short)
-              ∙ rw (after-header p (s .lays), after-map p (s .lays), after-front p (s .lays));
+              with-item (p .header) (header-after p (s .lays)) (p .map) (p .front) items (s .entry) (s .new) span (count-closed (p .closed))
+              (full-state (p .header) end word) (full-drop full) (s .short);
         })

@@ -17,7 +17,7 @@ use Rattle.opening_reading.specs.Reading.{verdictAt, stepsOver, Item, item, wit
 use Rattle.opening_reading.proofs.Verdicts.{States, Entries, Whole, whole-fits, whole-elsewhere, whole-front, verdict-keptItem}
 use Rattle.theorem_reopening.proofs.Closed.{Closed, closed-nil, closed-erased, closed-header, closed-covered, length-closed, closed-fits, good-closed, closed-append, keptFrom-closed}
 use Rattle.theorem_reopening.proofs.Reopened.{kept-openedStates}
-use Rattle.theorem_reopening.proofs.OpenedFront.{Opened, opened, kept-opened}
+use Rattle.theorem_reopening.proofs.OpenedFront.{opened, kept-opened}
 
 -- ---- the entries that a header covers
 
@@ -118,14 +118,6 @@ here {k} {entry} {states} {entries} i w c =
       kept-rest = rw (long, add-suc, ← suc-add i k) (sym (b .kept (suc i)));
     }
 
-behind-erased : {i j : ℕ} {group : Entries} {before after : List Item} {states : States} {entries : Entries} (entry : List ℕ)
-    → Place zero (suc i) j group before after states entries → Place zero i j group before after (Erased ∷ states) (entry ∷ entries)
-behind-erased {before = before} entry p = further Erased entry before p (closed-erased entry (p .closed-ahead)) (p .kept-ahead)
-
-behind-covered : {k i j : ℕ} {group : Entries} {before after : List Item} {states : States} {entries : Entries} (entry : List ℕ)
-    → Place k (suc i) j group before after states entries → Place (suc k) i j group before after (Written ∷ states) (entry ∷ entries)
-behind-covered {before = before} entry p = further Written entry before p (closed-covered entry (p .closed-ahead)) (p .kept-ahead)
-
 -- the item lies behind the first entry's
 later : {k i j : ℕ} {entry : List ℕ} {group : Entries} {before after : List Item} {states : States} {entries : Entries} → Whole entry k entries
     → Place k (suc i) j group before after states entries
@@ -162,8 +154,10 @@ module _ {k : ℕ} {entry : List ℕ} {states : States} {entries : Entries} (i j
 pub place : {k : ℕ} {front : States} {bytes : Entries} (i j : ℕ) (group : Entries) (before after : List Item) → Closed k front bytes
     → keptFrom k i front bytes ≡ before ++ (item j group ∷ after) → Place k i j group before after front bytes
 place i j group before after closed-nil e = absurd (not-nil (item j group) before after e)
-place i j group before after (closed-erased entry c) e = behind-erased entry (place (suc i) j group before after c e)
-place i j group before after (closed-covered entry c) e = behind-covered entry (place (suc i) j group before after c e)
+place i j group before after (closed-erased entry c) e =
+    let p = place (suc i) j group before after c e in further Erased entry before p (closed-erased entry (p .closed-ahead)) (p .kept-ahead)
+place i j group before after (closed-covered entry c) e =
+    let p = place (suc i) j group before after c e in further Written entry before p (closed-covered entry (p .closed-ahead)) (p .kept-ahead)
 place i j group [] after (closed-header entry w c) e = place-first i j group after w c e
 place i j group (x ∷ before) after (closed-header entry w c) e = place-later i j group after w c x before (place (suc i) j group before after c) e
 
@@ -278,9 +272,12 @@ pub record WholeAt (j : ℕ) (group : Entries) (entries : Entries) : Type 0 wher
   pub fits : j + length group ≤ length entries
   pub bytes : take (length group) (drop j entries) ≡ group
 
-wholeAt-opened : {j : ℕ} {group : Entries} {before after : List Item} {states : States} {entries : Entries} (o : Opened states entries)
-    → Place zero zero j group before after (o .front) (o .bytes) → WholeAt j group entries
-wholeAt-opened {j} {group} o p =
+pub kept-whole : {j : ℕ} {group : Entries} (states : States) (entries : Entries) → length states ≡ length entries
+    → List·Memᴰ (item j group) (keptFrom zero zero states entries) → WholeAt j group entries
+kept-whole {j} {group} states entries l m =
+    let split = member-split m in
+    let o = opened states entries l in
+    let p = place zero j group (split .0) (split .1) (o .closed) (sym (kept-opened o) ∙ kept-openedStates zero states entries l ∙ split .2) in
     let fits : j + length group ≤ length (o .bytes) = rw (← length-closed (o .closed)) (place-fits p) in
     record {
       header = p .header;
@@ -296,10 +293,3 @@ wholeAt-opened {j} {group} o p =
           )
           (place-bytes p);
     }
-
-pub kept-whole : {j : ℕ} {group : Entries} (states : States) (entries : Entries) → length states ≡ length entries
-    → List·Memᴰ (item j group) (keptFrom zero zero states entries) → WholeAt j group entries
-kept-whole {j} {group} states entries l m =
-    let split = member-split m in
-    let o = opened states entries l in
-    wholeAt-opened o (place zero j group (split .0) (split .1) (o .closed) (sym (kept-opened o) ∙ kept-openedStates zero states entries l ∙ split .2))

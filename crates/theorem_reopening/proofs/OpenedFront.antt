@@ -12,7 +12,6 @@ use Rattle.flash.specs.Flash.{every, allOnes}
 use Rattle.sector.specs.declared.EntryMapState.{EntryMapState}
 use Rattle.sector.specs.declared.EntryMapState.the-variants.{Empty, Written, Erased, Illegal}
 use Rattle.sector.specs.Map.{sameState, countIn}
-use Rattle.sector.proofs.Marks.{countIn-append}
 use Rattle.opening_reading.specs.Reading.{walk, keptFrom, isEmpty, isFreeTail, shut, shutBeforeTail, openedStates}
 use Rattle.opening_reading.proofs.Verdicts.{States, Entries, Whole, whole-front, verdict-refusedItem, verdict-keptItem}
 use Rattle.theorem_reopening.proofs.Course.{Course, ends, meetsEmpty, meetsErased, meetsIllegal, refusesEntry, refusesItem, keepsItem, erasesBehind, keepsBehind, goesOn, course}
@@ -170,7 +169,7 @@ kept-opened o = rw (o .states-split, o .entries-split) (kept-unmarked (o .closed
 -- ---- the counts
 
 -- in a closed front each entry is Written or Erased
-count-closed : {k : ℕ} {front : States} {bytes : Entries} → Closed k front bytes → countIn Written front + countIn Erased front ≡ length front
+pub count-closed : {k : ℕ} {front : States} {bytes : Entries} → Closed k front bytes → countIn Written front + countIn Erased front ≡ length front
 unfolding countIn
 count-closed closed-nil = refl
 count-closed (closed-erased entry c) = let rest = count-closed c in omega arith
@@ -181,16 +180,3 @@ pub count-empties : (s : EntryMapState) (n : ℕ) → sameState s Empty ≡ fals
 unfolding countIn
 count-empties s zero e = refl
 count-empties s (suc n) e = rw (e, count-empties s n e)
-
--- the next free entry is the one behind the front
-pub count-opened : {states : States} {entries : Entries} (o : Opened states entries) → countIn Written states + countIn Erased states ≡ length (o .front)
-count-opened o =
-    let tail = replicate (length (o .blanks)) Empty in
-    rw (
-      o .states-split,
-      countIn-append Written (o .front) tail,
-      countIn-append Erased (o .front) tail,
-      count-empties Written (length (o .blanks)) refl,
-      count-empties Erased (length (o .blanks)) refl,
-    )
-    (omega (arith, count-closed (o .closed)))

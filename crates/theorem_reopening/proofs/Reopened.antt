@@ -1,6 +1,6 @@
--- Opening twice: the second time changes nothing, and keeps the same items. And opening only clears bits.
+-- Opening twice: the second time changes nothing, and keeps the same items.
 --
--- In order: what opening leaves from an entry on; its length; opening twice; bits only cleared.
+-- In order: what opening leaves from an entry on; its length; opening twice.
 use mathlib.Core.Path.{_≡_, refl, ap, _∙_}
 use mathlib.Core.Bool.{Bool, true, false, _&&_, cond}
 use mathlib.Core.List.{List, [], _∷_}
@@ -9,11 +9,10 @@ use lib.ListN.{length}
 use Rattle.flash.specs.Flash.{allOnes}
 use Rattle.sector.specs.declared.EntryMapState.{EntryMapState}
 use Rattle.sector.specs.declared.EntryMapState.the-variants.{Empty, Written, Erased, Illegal}
-use Rattle.sector.proofs.Marks.{both-erased, StatesClear, states-nil, states-cons}
 use Rattle.opening_reading.specs.Reading.{usable, verdictAt, stepsOver, markBehind, walk, keptFrom, isFreeTail, shutBeforeTail, openedStates}
 use Rattle.opening_reading.proofs.Verdicts.{States, Entries, Good, verdict-refusedItem, verdict-keptItem}
 use Rattle.theorem_reopening.proofs.Course.{Course, ends, meetsEmpty, meetsErased, meetsIllegal, refusesEntry, refusesItem, keepsItem, erasesBehind, keepsBehind, goesOn, course}
-use Rattle.opening_reading.proofs.Midway.{isErased, isIllegal, Midway, walk-zero, midway-alike, midway-kept, both-written}
+use Rattle.opening_reading.proofs.Midway.{isErased, isIllegal, Midway, walk-zero, midway-alike, midway-kept}
 
 -- what opening leaves, from an entry on
 abbrev pub openedFrom : ℕ → EntryMapState → States → Entries → States
@@ -85,22 +84,3 @@ pub kept-openedStates : (i : ℕ) (states : States) (entries : Entries) → leng
     → keptFrom zero i (openedStates states entries) entries ≡ keptFrom zero i states entries
 unfolding openedStates
 kept-openedStates i states entries l = midway-kept i (opened-midway (course states entries l))
-
--- ---- bits only cleared
-
-clears-course : {k : ℕ} {mark : EntryMapState} {states : States} {entries : Entries} → Course k mark states entries
-    → StatesClear states (openedFrom k mark states entries)
-clears-course ends = states-nil
-clears-course (meetsEmpty entry c) = states-cons refl (clears-course c)
-clears-course (meetsErased entry c) = states-cons refl (clears-course c)
-clears-course (meetsIllegal entry c) = states-cons refl (clears-course c)
-clears-course (refusesEntry entry e c) = rw e (states-cons refl (clears-course c))
-clears-course (refusesItem entry s c) = rw (verdict-refusedItem s) (states-cons refl (clears-course c))
-clears-course (keepsItem entry g c) = rw (verdict-keptItem g) (states-cons refl (clears-course c))
-clears-course (erasesBehind s entry c) = states-cons (both-erased s) (clears-course c)
-clears-course (keepsBehind s entry u c) = states-cons (both-written s u) (clears-course c)
-clears-course (goesOn {states} {entries} c) = rw (walk-zero Written Erased states entries) (clears-course c)
-
-pub clears-openedStates : (states : States) (entries : Entries) → length states ≡ length entries → StatesClear states (openedStates states entries)
-unfolding openedStates
-clears-openedStates states entries l = clears-course (course states entries l)

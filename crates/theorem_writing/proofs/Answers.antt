@@ -8,24 +8,27 @@ use mathlib.Core.Logic.{_⊎_, inl, inr}
 use Prim.Native.Nat.{ℕ, zero, suc, _+_, _≤_}
 use native.Mathlib.Omega.{arith}
 use lib.Dec.{eqb, ltb}
-use lib.ListN.{length, take}
-use lib.Seq.{take-all}
-use borrow.Author.Tests.{ltb-false, le-ltb, eqb-false}
+use lib.ListN.{length, take, drop}
+use lib.Seq.{take-length}
+use borrow.Author.Tests.{ltb-false, le-ltb, eqb-false, not-false}
 use Rattle.flash.specs.Flash.{Unit4, every}
 use Rattle.flash.proofs.Laws.{neither}
 use Rattle.page.specs.declared.ThinPage.{ThinPage}
-use Rattle.page.specs.Writing.{badImage, badRecord, notActive, outcome, imageAfter, stops}
-use Rattle.sector.specs.declared.Answer.the-variants.{Done, KeyNotFound, CorruptedData, Stopped}
+use Rattle.page.specs.Record.{nextFree, fitToUse}
+use Rattle.page.specs.Writing.{badImage, badRecord, notActive, overFree, outcome, imageAfter, stops}
+use Rattle.page.proofs.Checks.{Usable, accepted-room, accepted-usable}
+use Rattle.sector.specs.declared.Answer.the-variants.{Done, BadImage, KeyNotFound, CorruptedData, ValueTooLong, Stopped}
 use Rattle.sector.specs.Answers.{Check, refusal, accepted}
+use Rattle.sector.specs.Header.{isActive}
 use Rattle.sector.specs.Item.{loads}
 use Rattle.sector.specs.Layout.{entryAt, spanOf}
-use Rattle.sector.proofs.Laws.{accepted-append, accepted-head}
+use Rattle.sector.proofs.Laws.{accepted-append, accepted-head, accepted-tail}
 use Rattle.call_page_state.specs.Calls.{initialise, initialiseImage, markFull, markFullImage}
-use Rattle.call_append.specs.Append.{appendSingle, appendSingleImage, appendVariable, appendVariableImage}
-use Rattle.call_copy.specs.Copy.{copyIn, copyInImage}
+use Rattle.call_append.specs.Append.{singleChecks, appendSingle, appendSingleImage, spanFor, variableChecks, appendVariable, appendVariableImage}
+use Rattle.call_copy.specs.Copy.{copyChecks, copyIn, copyInImage}
 use Rattle.call_erase.specs.Erase.{erase, eraseImage}
 use Rattle.call_purge_namespace.specs.PurgeNamespace.{purgeNamespace, purgeNamespaceImage}
-use Rattle.theorem_writing.specs.Promises.{single, variable, copied, Call, initialising, markingFull, putting, erasing, purging, checksOf, planOf, newOf, outcomeOf, imageOf, isRefusal, spanOfNew, earlierChecks}
+use Rattle.theorem_writing.specs.Promises.{PutRequest, single, variable, copied, Call, initialising, markingFull, putting, erasing, purging, checksOf, planOf, newOf, outcomeOf, imageOf, isRefusal, spanOfNew, earlierChecks}
 
 -- ---- checks
 
@@ -64,6 +67,34 @@ copied-span source i image page h =
     positive : (span : ℕ) → (span ≡ 0 → ⊥) → 1 ≤ span
     positive zero h = absurd (h refl)
     positive (suc span) h = omega arith
+
+-- what the accepted checks of a call that puts an item tell
+pub record Accepts (new : PutRequest) (page : ThinPage) : Type 0 where
+  pub fit : fitToUse page ≡ true
+  pub active : isActive (page .state) ≡ true
+  pub one : 1 ≤ spanOfNew new
+  pub room : nextFree page + spanOfNew new ≤ 126
+
+accepts-of : {image : List ℕ} {checks : List Check} (new : PutRequest) (page : ThinPage) → Usable image page (not (isActive (page .state))) checks
+    → 1 ≤ spanOfNew new → accepted (overFree page (spanOfNew new) ∷ []) ≡ true → Accepts new page
+accepts-of new page u one room =
+    record { fit = u .fit; active = not-false (isActive (page .state)) (u .state); one = one; room = accepted-room page (spanOfNew new) one room }
+
+pub accepts : (new : PutRequest) (image : List ℕ) (page : ThinPage) → accepted (checksOf (putting new) image page) ≡ true → Accepts new page
+accepts (single item) image page h =
+    accepts-of (single item) page (accepted-usable image page (not (isActive (page .state))) (drop 3 (singleChecks image page item)) h)
+    (omega arith) (accepted-both (earlierChecks (single item) image page) (overFree page 1 ∷ []) h .1)
+accepts (variable item payload) image page h =
+    let span = spanFor (length payload) in
+    let last : List Check = (ltb 126 span, ValueTooLong) ∷ overFree page span ∷ [] in
+    accepts-of (variable item payload) page (accepted-usable image page (not (isActive (page .state))) (drop 3 (variableChecks image page item payload)) h) (omega arith)
+    (accepted-tail (ltb 126 span) ValueTooLong (overFree page span ∷ []) (accepted-both (earlierChecks (variable item payload) image page) last h .1))
+accepts (copied source i) image page h =
+    let checks = copyChecks image page source i in
+    let parts = accepted-both (earlierChecks (copied source i) image page) (overFree page (spanOf (entryAt source i)) ∷ []) h in
+    accepts-of (copied source i) page
+    (accepted-usable source page (not (isActive (page .state))) (drop 4 checks) (accepted-tail (badImage image .0) BadImage (drop 1 checks) h))
+    (copied-span source i image page (parts .0) .0) (parts .1)
 
 -- ---- what an answer tells
 
@@ -113,39 +144,33 @@ pub record Told (call : Call) (image : List ℕ) (page : ThinPage) (n : ℕ) : T
   pub outcome-is : outcomeOf call image page n ≡ outcome (checksOf call image page) (stops count (planOf call image page)) page (newOf call page)
   pub image-is : imageOf call image page n ≡ imageAfter (checksOf call image page) (take count (planOf call image page)) image
 
-not-below : (plan : List Unit4) → false ≡ stops (length plan) plan
-not-below plan = sym (le-ltb (length plan) (length plan) (omega arith))
+-- a call that puts an item does n
+pub told-put : (new : PutRequest) (image : List ℕ) (page : ThinPage) (n : ℕ)
+    → (outcomeOf (putting new) image page n ≡ outcome (checksOf (putting new) image page) (stops n (planOf (putting new) image page)) page (newOf (putting new) page))
+    × (imageOf (putting new) image page n ≡ imageAfter (checksOf (putting new) image page) (take n (planOf (putting new) image page)) image)
+unfolding appendSingle appendSingleImage appendVariable appendVariableImage copyIn copyInImage
+told-put (single item) image page n = (refl, refl)
+told-put (variable item payload) image page n = (refl, refl)
+told-put (copied source i) image page n = (refl, refl)
 
-all-units : (plan : List Unit4) → plan ≡ take (length plan) plan
-all-units plan = sym (take-all (length plan) plan (omega arith))
+-- one that takes no n does all
+told-all : (call : Call) (image : List ℕ) (page : ThinPage) (n : ℕ)
+    → outcomeOf call image page n ≡ outcome (checksOf call image page) false page (newOf call page)
+    → imageOf call image page n ≡ imageAfter (checksOf call image page) (planOf call image page) image → Told call image page n
+told-all call image page n outcome-is image-is =
+    let plan = planOf call image page in
+    let checks = checksOf call image page in
+    record {
+      count = length plan;
+      count-is = inr refl;
+      outcome-is = outcome-is ∙ ap (λ (s : Bool). outcome checks s page (newOf call page)) (sym (le-ltb (length plan) (length plan) (omega arith)));
+      image-is = image-is ∙ ap (λ (us : List Unit4). imageAfter checks us image) (sym (take-length plan));
+    }
 
 pub told : (call : Call) (image : List ℕ) (page : ThinPage) (n : ℕ) → Told call image page n
-unfolding initialise initialiseImage markFull markFullImage appendSingle appendSingleImage appendVariable appendVariableImage copyIn copyInImage erase eraseImage purgeNamespace purgeNamespaceImage
+unfolding initialise initialiseImage markFull markFullImage erase eraseImage purgeNamespace purgeNamespaceImage
 told (initialising sequence) image page n = record { count = n; count-is = inl refl; outcome-is = refl; image-is = refl }
-told markingFull image page n =
-    let plan = planOf markingFull image page in
-    record {
-      count = length plan;
-      count-is = inr refl;
-      outcome-is = ap (λ (s : Bool). outcome (checksOf markingFull image page) s page (newOf markingFull page)) (not-below plan);
-      image-is = ap (λ (us : List Unit4). imageAfter (checksOf markingFull image page) us image) (all-units plan);
-    }
-told (putting (single item)) image page n = record { count = n; count-is = inl refl; outcome-is = refl; image-is = refl }
-told (putting (variable item payload)) image page n = record { count = n; count-is = inl refl; outcome-is = refl; image-is = refl }
-told (putting (copied source i)) image page n = record { count = n; count-is = inl refl; outcome-is = refl; image-is = refl }
-told (erasing index span) image page n =
-    let plan = planOf (erasing index span) image page in
-    record {
-      count = length plan;
-      count-is = inr refl;
-      outcome-is = ap (λ (s : Bool). outcome (checksOf (erasing index span) image page) s page (newOf (erasing index span) page)) (not-below plan);
-      image-is = ap (λ (us : List Unit4). imageAfter (checksOf (erasing index span) image page) us image) (all-units plan);
-    }
-told (purging namespace) image page n =
-    let plan = planOf (purging namespace) image page in
-    record {
-      count = length plan;
-      count-is = inr refl;
-      outcome-is = ap (λ (s : Bool). outcome (checksOf (purging namespace) image page) s page page) (not-below plan);
-      image-is = ap (λ (us : List Unit4). imageAfter (checksOf (purging namespace) image page) us image) (all-units plan);
-    }
+told markingFull image page n = told-all markingFull image page n refl refl
+told (putting new) image page n = let put = told-put new image page n in record { count = n; count-is = inl refl; outcome-is = put .0; image-is = put .1 }
+told (erasing index span) image page n = told-all (erasing index span) image page n refl refl
+told (purging namespace) image page n = told-all (purging namespace) image page n refl refl

@@ -18,25 +18,23 @@ use Rattle.page.specs.declared.Outcome.{Outcome}
 use Rattle.page.specs.declared.ThinPage.{ThinPage}
 use Rattle.sector.specs.Header.{isUninitialized, isActive, isInUse}
 use Rattle.page.specs.Record.{nextFree, noItem, placeFits, placeZero, without, inUse, blankFits, fitToUse, withItem, withErased}
-use Rattle.page.specs.Writing.{badImage, badRecord, overFree, stops}
-use Rattle.page.proofs.Checks.{accepted-room, accepted-usable}
+use Rattle.page.specs.Writing.{badImage, badRecord, stops}
+use Rattle.page.proofs.Checks.{accepted-usable}
 use Rattle.page.proofs.Laws.{Fit, fit-clauses, fit-of}
-use Rattle.sector.specs.declared.Answer.the-variants.{BadImage, BadRecord, CorruptedData, NotWritten, ValueTooLong}
+use Rattle.sector.specs.declared.Answer.the-variants.{BadImage, BadRecord, CorruptedData, NotWritten}
 use Rattle.sector.specs.declared.EntryMapState.the-variants.{Written, Erased}
 use Rattle.sector.specs.declared.PageState.{PageState}
 use Rattle.sector.specs.declared.PageState.the-variants.{Uninitialized, Active, Full, Freeing, Corrupt, Invalid}
-use Rattle.sector.specs.Answers.{Check, accepted}
+use Rattle.sector.specs.Answers.{accepted}
 use Rattle.sector.specs.Item.{hashOf}
-use Rattle.sector.specs.Layout.{entryAt, namespaceOf, spanOf, keyOf, chunkOf}
+use Rattle.sector.specs.Layout.{entryAt, namespaceOf, keyOf, chunkOf}
 use Rattle.sector.specs.Map.{statesOf, countIn, markRange}
 use Rattle.sector.proofs.Laws.{length-statesOf, accepted-head, accepted-tail}
 use Rattle.sector.proofs.Marks.{statesOf-markRange, countIn-marked, countIn-erased}
 use Rattle.call_page_state.specs.Calls.{initialiseChecks, initialised, markedFull}
-use Rattle.call_append.specs.Append.{singleChecks, spanFor, variableChecks}
-use Rattle.call_copy.specs.Copy.{copyChecks}
 use Rattle.call_erase.specs.Erase.{allWritten, eraseChecks}
-use Rattle.theorem_writing.specs.Promises.{single, variable, copied, Call, initialising, markingFull, putting, erasing, purging, checksOf, planOf, newOf, earlierChecks, AsInCode, DoneHandsBackFit}
-use Rattle.theorem_writing.proofs.Answers.{checks-refuse, accepted-both, copied-span, done-only, told}
+use Rattle.theorem_writing.specs.Promises.{PutRequest, single, variable, copied, Call, initialising, markingFull, putting, erasing, purging, checksOf, planOf, newOf, spanOfNew, AsInCode, DoneHandsBackFit}
+use Rattle.theorem_writing.proofs.Answers.{checks-refuse, accepts, done-only, told}
 
 -- ---- states
 
@@ -210,32 +208,20 @@ pub hash-short : (namespace : ℕ) (key : List ℕ) (chunk : ℕ) → hashOf nam
 unfolding hashOf
 hash-short namespace key chunk = omega arith
 
+put-fit : (new : PutRequest) (image : List ℕ) (page : ThinPage) → AsInCode page → accepted (checksOf (putting new) image page) ≡ true
+    → (namespace : ℕ) (key : List ℕ) (chunk : ℕ) → fitToUse (withItem page (spanOfNew new) namespace (hashOf namespace key chunk)) ≡ true
+put-fit new image page code h namespace key chunk =
+    let a = accepts new image page h in
+    item-fit page (spanOfNew new) namespace (hashOf namespace key chunk) code (fit-clauses page (a .fit)) (a .active) (a .one) (a .room) (hash-short namespace key chunk)
+
 new-fit : (call : Call) (image : List ℕ) (page : ThinPage) → AsInCode page → accepted (checksOf call image page) ≡ true → fitToUse (newOf call page) ≡ true
 new-fit (initialising sequence) image page code h =
     initialised-fit page sequence (accepted-usable image page (not (isUninitialized (page .state))) (drop 3 (initialiseChecks image page)) h .fit)
 new-fit markingFull image page code h = marked-full-fit page (accepted-usable image page (not (isActive (page .state))) [] h .fit)
-new-fit (putting (single item)) image page code h =
-    let u = accepted-usable image page (not (isActive (page .state))) (drop 3 (singleChecks image page item)) h in
-    let room = accepted-room page 1 (omega arith) (accepted-both (earlierChecks (single item) image page) (overFree page 1 ∷ []) h .1) in
-    item-fit page 1 (item .namespace) (hashOf (item .namespace) (item .key) (item .chunk)) code (fit-clauses page (u .fit))
-    (not-false (isActive (page .state)) (u .state)) (omega arith) room (hash-short (item .namespace) (item .key) (item .chunk))
-new-fit (putting (variable item payload)) image page code h =
-    let u = accepted-usable image page (not (isActive (page .state))) (drop 3 (variableChecks image page item payload)) h in
-    let span = spanFor (length payload) in
-    let behind : List Check = (ltb 126 span, ValueTooLong) ∷ overFree page span ∷ [] in
-    let room = accepted-room page span (omega arith)
-    (accepted-tail (ltb 126 span) ValueTooLong (overFree page span ∷ []) (accepted-both (earlierChecks (variable item payload) image page) behind h .1)) in
-    item-fit page span (item .namespace) (hashOf (item .namespace) (item .key) (item .chunk)) code (fit-clauses page (u .fit))
-    (not-false (isActive (page .state)) (u .state)) (omega arith) room (hash-short (item .namespace) (item .key) (item .chunk))
+new-fit (putting (single item)) image page code h = put-fit (single item) image page code h (item .namespace) (item .key) (item .chunk)
+new-fit (putting (variable item payload)) image page code h = put-fit (variable item payload) image page code h (item .namespace) (item .key) (item .chunk)
 new-fit (putting (copied source i)) image page code h =
-    let checks = copyChecks image page source i in
-    let entry = entryAt source i in
-    let span = spanOf entry in
-    let parts = accepted-both (earlierChecks (copied source i) image page) (overFree page span ∷ []) h in
-    let one : 1 ≤ span = copied-span source i image page (parts .0) .0 in
-    let u = accepted-usable source page (not (isActive (page .state))) (drop 4 checks) (accepted-tail (badImage image .0) BadImage (drop 1 checks) h) in
-    item-fit page span (namespaceOf entry) (hashOf (namespaceOf entry) (keyOf entry) (chunkOf entry)) code (fit-clauses page (u .fit))
-    (not-false (isActive (page .state)) (u .state)) one (accepted-room page span one (parts .1)) (hash-short (namespaceOf entry) (keyOf entry) (chunkOf entry))
+    let entry = entryAt source i in put-fit (copied source i) image page code h (namespaceOf entry) (keyOf entry) (chunkOf entry)
 new-fit (erasing index span) image page code h =
     let u = accepted-usable image page (not (isInUse (page .state))) (drop 3 (eraseChecks image page index span)) h in
     let wrong = eqb span 0 || ltb 126 (index + span) in

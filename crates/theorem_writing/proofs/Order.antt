@@ -31,7 +31,7 @@ use Rattle.call_copy.specs.Copy.{copiedBytes, copyPlan}
 use Rattle.call_erase.specs.Erase.{erasePlan}
 use Rattle.call_purge.specs.Purge.{heldSpan, purgePlan, purgeImage}
 use Rattle.call_purge_namespace.specs.PurgeNamespace.{toZero, zeroUnits, purgeNamespacePlan}
-use Rattle.theorem_writing.specs.Promises.{PutRequest, single, variable, copied, initialising, markingFull, putting, erasing, purging, formed, spanOfNew, Write, rises, inOrder, marking, entryUnits, itemWrites, zeroWrites, unitsOf, WritesInOrder, outside, PurgeInOrder, PurgesItsEntries, PurgesNothingPast}
+use Rattle.theorem_writing.specs.Promises.{PutRequest, single, variable, copied, initialising, markingFull, putting, erasing, purging, planOf, formed, spanOfNew, Write, rises, inOrder, marking, entryUnits, itemWrites, zeroWrites, unitsOf, WritesInOrder, outside, PurgeInOrder, PurgesItsEntries, PurgesNothingPast}
 
 -- ---- units that rise
 
@@ -139,6 +139,14 @@ rises-entries (copied source i) page h =
     let size : length (copiedBytes source i) ≤ 32 * span = rw length-take (omega arith) in
     rises-units (entryAddress start) (copiedBytes source i) (entryAddress (start + span)) (omega arith)
 
+-- the plan of a call that puts an item
+pub plan-put : (new : PutRequest) (image : List ℕ) (page : ThinPage)
+    → planOf (putting new) image page ≡ itemPlan (entryUnits new page) (nextFree page) (spanOfNew new) (page .map)
+unfolding singlePlan variablePlan copyPlan
+plan-put (single item) image page = refl
+plan-put (variable item payload) image page = refl
+plan-put (copied source i) image page = refl
+
 units-of-item : (new : PutRequest) (page : ThinPage) → unitsOf (itemWrites new page) ≡ itemPlan (entryUnits new page) (nextFree page) (spanOfNew new) (page .map)
 unfolding itemPlan
 units-of-item new page =
@@ -165,12 +173,10 @@ units-of-zero i [] = refl
 units-of-zero i (z ∷ zs) = ap (λ (rest : List Unit4). cond z (units (entryAddress i) (replicate 32 0)) [] ++ rest) (units-of-zero (suc i) zs)
 
 pub writes-in-order : WritesInOrder
-unfolding initialisePlan markFullPlan singlePlan variablePlan copyPlan erasePlan purgeNamespacePlan
+unfolding initialisePlan markFullPlan erasePlan purgeNamespacePlan
 writes-in-order (initialising sequence) image page h = (append-nil (initialisePlan sequence), rw (rises-header sequence))
 writes-in-order markingFull image page h = (append-nil markFullPlan, rw (rises-units 0 (stateBytes Full) 4 (omega arith)))
-writes-in-order (putting (single item)) image page h = (units-of-item (single item) page, item-in-order (single item) page h)
-writes-in-order (putting (variable item payload)) image page h = (units-of-item (variable item payload) page, item-in-order (variable item payload) page h)
-writes-in-order (putting (copied source i)) image page h = (units-of-item (copied source i) page, item-in-order (copied source i) page h)
+writes-in-order (putting new) image page h = (units-of-item new page ∙ sym (plan-put new image page), item-in-order new page h)
 writes-in-order (erasing index span) image page h =
     (append-nil (erasePlan page index span), rw (rises-marks index span (markRange Erased index span (page .map))))
 writes-in-order (purging namespace) image page h =

@@ -24,12 +24,12 @@ use Rattle.sector.specs.Answers.{numberOf, Check, refusal, accepted}
 use Rattle.sector.specs.Layout.{entryAt, spanOf}
 use Rattle.sector.proofs.Laws.{accepted-append, refusal-append}
 use Rattle.call_page_state.specs.Calls.{initialiseChecks, initialisePlan, initialised, initialise}
-use Rattle.call_append.specs.Append.{singleChecks, variableChecks, singlePlan, withSingle, spanFor, variablePlan, withVariable, appendSingle, appendVariable}
-use Rattle.call_copy.specs.Copy.{copyChecks, copyPlan, withCopy, copyIn}
+use Rattle.call_append.specs.Append.{singlePlan, withSingle, spanFor, variablePlan, withVariable, appendSingle, appendVariable}
+use Rattle.call_copy.specs.Copy.{copyPlan, withCopy, copyIn}
 use Rattle.call_purge.specs.Purge.{purgePlan, purge, purgeImage}
 use Rattle.theorem_writing.specs.Promises.{single, variable, copied, initialising, markingFull, putting, erasing, purging, checksOf, planOf, newOf, PlainFromTotal, StoppedLeavesFirst, StopsBelowTotal, isRefusal, RefusedChangesNothing, RefusedPurgesNothing, earlierChecks, PageFullExactly, SetsNoBit, OnlyClearsBits, PurgeOnlyClearsBits, writesOf, AltersNothingElse}
 use Rattle.theorem_writing.proofs.Order.{writes-in-order, outside-units-of, getD-after}
-use Rattle.theorem_writing.proofs.Answers.{checks-refuse, copied-span, stopped-only, refusal-only, told}
+use Rattle.theorem_writing.proofs.Answers.{checks-refuse, copied-span, stopped-only, refusal-only, told-put, told}
 
 -- ---- the total
 
@@ -72,16 +72,12 @@ below-total : (checks : List Check) (plan : List Unit4) (page new : ThinPage) (n
 below-total checks plan page new n a h = rw (a, lt-ltb n (length plan) h)
 
 pub stops-below-total : StopsBelowTotal
-unfolding initialise appendSingle appendVariable copyIn
+unfolding initialise
 stops-below-total (initialising sequence) image page n t a h =
     below-total (initialiseChecks image page) (initialisePlan sequence) page (initialised page sequence) n a h
 stops-below-total markingFull image page n t a h = absurd (false≢true t)
-stops-below-total (putting (single item)) image page n t a h =
-    below-total (singleChecks image page item) (singlePlan page item) page (withSingle page item) n a h
-stops-below-total (putting (variable item payload)) image page n t a h =
-    below-total (variableChecks image page item payload) (variablePlan page item payload) page (withVariable page item payload) n a h
-stops-below-total (putting (copied source i)) image page n t a h =
-    below-total (copyChecks image page source i) (copyPlan page source i) page (withCopy page source i) n a h
+stops-below-total (putting new) image page n t a h =
+    told-put new image page n .0 ∙ below-total (checksOf (putting new) image page) (planOf (putting new) image page) page (newOf (putting new) page) n a h
 stops-below-total (erasing index span) image page n t a h = absurd (false≢true t)
 stops-below-total (purging namespace) image page n t a h = absurd (false≢true t)
 
@@ -145,18 +141,22 @@ length-full : (long over : Bool) → refusal ((long, ValueTooLong) ∷ (over, Pa
 length-full true over h = absurd (false≢true (ap isPageFull h))
 length-full false over h = (refl, room-full over h)
 
+-- of a call whose span is on the page where its earlier checks accept
+room-exactly : (earlier : List Check) → every answersOther earlier ≡ true → (stopped : Bool) (page new : ThinPage) (span : ℕ) → (accepted earlier ≡ true → span ≤ 126)
+    → let answer = outcome (earlier ++ (overFree page span ∷ [])) stopped page new .answer in
+    (answer ≡ PageFull → (accepted earlier ≡ true) × (span ≤ 126) × (free page < span))
+    × (accepted earlier ≡ true → span ≤ 126 → free page < span → answer ≡ PageFull)
+room-exactly earlier others stopped page new span fits = (
+  (λ h.
+      let f = full-of-behind earlier (overFree page span ∷ []) others stopped page new h in
+      (f .0, fits (f .0), ltb-true (free page) span (room-full (overFree page span .0) (f .1)))),
+  (λ a s o. behind-full earlier (overFree page span ∷ []) others stopped page new a (rw (lt-ltb (free page) span o)) (rw (lt-ltb (free page) span o))),
+)
+
 pub page-full-exactly : PageFullExactly
 unfolding appendSingle appendVariable copyIn
 page-full-exactly (single item) image page n =
-    let earlier = earlierChecks (single item) image page in
-    let behind : List Check = overFree page 1 ∷ [] in
-    let stopped = stops n (singlePlan page item) in
-    let new = withSingle page item in (
-      (λ h.
-          let f = full-of-behind earlier behind refl stopped page new h in
-          (f .0, omega arith, ltb-true (free page) 1 (room-full (overFree page 1 .0) (f .1)))),
-      (λ a s o. behind-full earlier behind refl stopped page new a (rw (lt-ltb (free page) 1 o)) (rw (lt-ltb (free page) 1 o))),
-    )
+    room-exactly (earlierChecks (single item) image page) refl (stops n (singlePlan page item)) page (withSingle page item) 1 (λ a. omega arith)
 page-full-exactly (variable item payload) image page n =
     let span = spanFor (length payload) in
     let earlier = earlierChecks (variable item payload) image page in
@@ -172,17 +172,8 @@ page-full-exactly (variable item payload) image page n =
           (rw (le-ltb 126 span s, lt-ltb (free page) span o)) (rw (le-ltb 126 span s, lt-ltb (free page) span o))),
     )
 page-full-exactly (copied source i) image page n =
-    let span = spanOf (entryAt source i) in
-    let earlier = earlierChecks (copied source i) image page in
-    let behind : List Check = overFree page span ∷ [] in
-    let stopped = stops n (copyPlan page source i) in
-    let new = withCopy page source i in (
-      (λ h.
-          let f = full-of-behind earlier behind refl stopped page new h in
-          let room : i + span ≤ 126 = copied-span source i image page (f .0) .1 in
-          (f .0, omega arith, ltb-true (free page) span (room-full (overFree page span .0) (f .1)))),
-      (λ a s o. behind-full earlier behind refl stopped page new a (rw (lt-ltb (free page) span o)) (rw (lt-ltb (free page) span o))),
-    )
+    room-exactly (earlierChecks (copied source i) image page) refl (stops n (copyPlan page source i)) page (withCopy page source i) (spanOf (entryAt source i))
+    (λ a. let room : i + spanOf (entryAt source i) ≤ 126 = copied-span source i image page a .1 in omega arith)
 
 -- ---- cleared bits
 
