@@ -27,7 +27,10 @@ clears-splice zero o = o
 clears-splice (suc m) clears-nil = clears-nil
 clears-splice (suc m) (clears-cons {x = x} e o) = clears-cons (and-self x) (clears-splice m o)
 
-pub splice-all : {old new : List ℕ} (m : ℕ) → OnlyClears old new → length new ≤ m → splice m new old ≡ new
+pub length-splice : {old new : List ℕ} (m : ℕ) → OnlyClears old new → length (splice m new old) ≡ length old
+length-splice m o = sym (length-clears (clears-splice m o)) ∙ length-clears o
+
+splice-all : {old new : List ℕ} (m : ℕ) → OnlyClears old new → length new ≤ m → splice m new old ≡ new
 splice-all zero clears-nil h = refl
 splice-all zero (clears-cons e o) h = absurd (omega arith)
 splice-all (suc m) clears-nil h = refl
@@ -72,10 +75,7 @@ module _ (header old new entries : List ℕ) (header-size : length header ≡ 32
       sym (drop-drop 4 (4 * j) (splice (4 * j) new old)) ∙ ap (drop 4) (drop-at front (drop (4 * j) old) (4 * j) size) ∙ drop-drop 4 (4 * j) old
 
   splice-size : (j : ℕ) → j < 8 → length (splice (4 * j) new old) ≡ 32
-  splice-size j h = length-clears-back (clears-splice (4 * j) clears) ∙ new-size
-    where
-      length-clears-back : {xs ys : List ℕ} → OnlyClears xs ys → length xs ≡ length ys
-      length-clears-back o = sym (length-clears o)
+  splice-size j h = length-splice (4 * j) clears ∙ map-size
 
   unit-size : (j : ℕ) → j < 8 → length (mapUnit j new) ≡ 4
   unit-size j h = length-take-le 4 (drop (4 * j) new) (rw length-drop (omega (arith, new-size)))
@@ -107,7 +107,7 @@ module _ (header old new entries : List ℕ) (header-size : length header ≡ 32
   run-unit j h false e = run-units (mapOffset + 4 * j) (mapUnit j new) (bytes-at j (omega arith)) ∙ one-unit j h
 
   -- all of them
-  pub run-changed : (j m : ℕ) → j + m ≤ 8 → run (changedUnits j m old new) (imageAt j) ≡ imageAt (j + m)
+  run-changed : (j m : ℕ) → j + m ≤ 8 → run (changedUnits j m old new) (imageAt j) ≡ imageAt (j + m)
   unfolding changedUnits run
   run-changed j zero h = rw add-zero
   run-changed j (suc m) h =
@@ -115,6 +115,9 @@ module _ (header old new entries : List ℕ) (header-size : length header ≡ 32
       ∙ ap (run (changedUnits (suc j) m old new)) (run-unit j (omega arith) (sameBytes (mapUnit j old) (mapUnit j new)) refl)
       ∙ run-changed (suc j) m (omega arith)
       ∙ rw (add-suc, suc-add)
+
+  pub run-pass : run (changedUnits 0 8 old new) (header ++ (old ++ entries)) ≡ header ++ (new ++ entries)
+  run-pass = run-changed 0 8 (omega arith) ∙ ap (λ (map : List ℕ). header ++ (map ++ entries)) (splice-all 32 clears (omega (arith, new-size)))
 
   -- the first n of them: the map is new up to some unit, and old behind it
   pub record Reached (j m n : ℕ) : Type 0 where

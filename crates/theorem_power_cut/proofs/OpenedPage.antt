@@ -8,7 +8,7 @@ use Prim.Native.Nat.{ℕ, zero, suc, _+_, _*_}
 use native.Mathlib.Omega.{arith}
 use lib.ListN.{length, take, drop, replicate, replicate-append-replicate, length-append, length-drop, length-replicate, take-append-drop}
 use lib.Seq.{take-at, drop-at, length-take-le}
-use Rattle.flash.specs.Flash.{run, every, allOnes}
+use Rattle.flash.specs.Flash.{Unit4, run, every, allOnes}
 use Rattle.flash.proofs.Laws.{Bytes, bytes-take, bytes-drop, bytes-run, OnlyClears, length-clears, replicate-all-ones, run-append}
 use Rattle.sector.specs.declared.EntryMapState.the-variants.{Empty}
 use Rattle.sector.specs.Layout.{chunks, entriesOf, mapOf}
@@ -26,7 +26,7 @@ use Rattle.theorem_reopening.proofs.OpenedFront.{Opened, opened}
 use Rattle.theorem_reopening.proofs.Cuts.{kept-unmarked}
 use Rattle.theorem_power_cut.proofs.Chunks.{chunks-append}
 use Rattle.theorem_power_cut.proofs.Found.{map-size}
-use Rattle.theorem_power_cut.proofs.MapUnits.{splice-all, run-changed}
+use Rattle.theorem_power_cut.proofs.MapUnits.{run-pass}
 use Rattle.theorem_power_cut.proofs.Standing.{Standing}
 
 -- ---- entries that are all 0xFF
@@ -54,10 +54,16 @@ module _ (image : List ℕ) (size : length image ≡ 4096) (bytes : Bytes image)
   abbrev pub entries : Entries
   entries = entriesOf image
 
-  header-size : length (take 32 image) ≡ 32
+  abbrev pub header : List ℕ
+  header = take 32 image
+
+  abbrev pub rest : List ℕ
+  rest = drop 64 image
+
+  pub header-size : length header ≡ 32
   header-size = length-take-le 32 image (omega arith)
 
-  states-size : length states ≡ 126
+  pub states-size : length states ≡ 126
   states-size = length-statesOf (mapOf image) (map-size image size)
 
   pub same-size : length states ≡ length entries
@@ -78,30 +84,32 @@ module _ (image : List ℕ) (size : length image ≡ 4096) (bytes : Bytes image)
       clears-pack
       (states-append (clears-secondPass states entries same-size) (states-refl (drop 126 (unpack (mapOf image)))))
 
-  abbrev header : List ℕ
-  header = take 32 image
+  pub first-size : length (firstMap image) ≡ 32
+  first-size = length-clears map-first ∙ map-size image size
 
-  abbrev rest : List ℕ
-  rest = drop 64 image
+  pub before : Bytes (header ++ (mapOf image ++ rest))
+  before = subst Bytes (image-parts image) bytes
+
+  abbrev pub first : List Unit4
+  first = changedUnits 0 8 (mapOf image) (firstMap image)
+
+  pub run-first : run first image ≡ header ++ (firstMap image ++ rest)
+  run-first =
+      ap (run first) (image-parts image) ∙ run-pass header (mapOf image) (firstMap image) rest header-size (map-size image size) map-first before
+
+  pub between : Bytes (header ++ (firstMap image ++ rest))
+  between = subst Bytes run-first (bytes-run first bytes)
+
+  abbrev pub second : List Unit4
+  second = changedUnits 0 8 (firstMap image) (openedMap image)
 
   -- the entries and the header stay, and the map is the reading's
   pub run-opening : run (openingPlan image) image ≡ header ++ (openedMap image ++ rest)
   unfolding openingPlan
   run-opening =
-      let first = changedUnits 0 8 (mapOf image) (firstMap image) in
-      let second = changedUnits 0 8 (firstMap image) (openedMap image) in
-      let before : Bytes (header ++ (mapOf image ++ rest)) = subst Bytes (image-parts image) bytes in
-      let first-size : length (firstMap image) ≡ 32 = length-clears map-first ∙ map-size image size in
-      let second-size : length (openedMap image) ≡ 32 = length-clears map-second ∙ first-size in
-      let one : run first image ≡ header ++ (firstMap image ++ rest) =
-      ap (run first) (image-parts image)
-      ∙ run-changed header (mapOf image) (firstMap image) rest header-size (map-size image size) map-first before 0 8 (omega arith)
-      ∙ ap (λ (map : List ℕ). header ++ (map ++ rest)) (splice-all 32 map-first (omega arith)) in
-      let between : Bytes (header ++ (firstMap image ++ rest)) = subst Bytes one (bytes-run first bytes) in
       run-append first second image
-      ∙ ap (run second) one
-      ∙ run-changed header (firstMap image) (openedMap image) rest header-size first-size map-second between 0 8 (omega arith)
-      ∙ ap (λ (map : List ℕ). header ++ (map ++ rest)) (splice-all 32 map-second (omega arith))
+      ∙ ap (run second) run-first
+      ∙ run-pass header (firstMap image) (openedMap image) rest header-size first-size map-second between
 
   -- ---- the page that stands there
 
@@ -168,21 +176,15 @@ module _ (image : List ℕ) (size : length image ≡ 4096) (bytes : Bytes image)
   tail-blank : tail ≡ replicate (32 * m) 0xFF
   tail-blank = blank-bytes m tail tail-size (rw (← blank-entries) (left .blank))
 
-  all-states : States
-  all-states = openedStates states entries ++ drop 126 (unpack (mapOf image))
-
-  all-size : length all-states ≡ 128
-  unfolding all-states
-  all-size =
-      rw (length-append, length-openedStates states entries, states-size, length-drop, length-unpack (mapOf image), map-size image size)
-
   pub opened-size : length (openedMap image) ≡ 32
-  opened-size = length-clears map-second ∙ length-clears map-first ∙ map-size image size
+  opened-size = length-clears map-second ∙ first-size
 
   pub opened-states : statesOf (openedMap image) ≡ openedStates states entries
   unfolding openedMap
   opened-states =
-      ap (take 126) (unpack-pack (openedStates states entries ++ drop 126 (unpack (mapOf image))) (unfold all-states in rw all-size))
+      ap (take 126)
+      (unpack-pack (openedStates states entries ++ drop 126 (unpack (mapOf image)))
+      (rw (length-append, length-openedStates states entries, states-size, length-drop, length-unpack (mapOf image), map-size image size)))
       ∙ take-at (openedStates states entries) (drop 126 (unpack (mapOf image))) 126 (length-openedStates states entries ∙ states-size)
 
   same-items : keptFrom zero zero (left .front) (left .bytes) ≡ keptItems image
