@@ -97,11 +97,7 @@ placed unlisted place = cond unlisted [] (place ∷ [])
 listed-more : (items : List Item) (i : ℕ) (entry : List ℕ) (new : Entries)
     → listedItems (items ++ (item i (entry ∷ new) ∷ []))
     ≡ listedItems items ++ placed (eqb (namespaceOf entry) 0) (record { hash = hashOfItem entry; index = i })
-listed-more [] i entry new = by-test (eqb (namespaceOf entry) 0)
-  where
-    by-test : (none : Bool) → cond none [] (record { hash = hashOfItem entry; index = i } ∷ []) ≡ placed none (record { hash = hashOfItem entry; index = i })
-    by-test true = refl
-    by-test false = refl
+listed-more [] i entry new = refl
 listed-more (item j group ∷ items) i entry new = by-test (eqb (namespaceOf (headerOf group)) 0) (listed-more items i entry new)
   where
     first : Listed

@@ -168,11 +168,7 @@ module _ {image : List ℕ} {items : List Item} (p : Standing image items) {writ
       → entryAt (imageOf (callOf write) image (at-hand p) n) i ≡ entryAt image i
   write-entries i away =
       ap (λ (after : List ℕ). entryAt after i) (s .image-is)
-      ∙ take-drop-run (entryAddress i) 32 image (outside-take n (outside i (here away)))
-    where
-      here : (i < nextFree (at-hand p)) ⊎ (nextFree (at-hand p) + length (entriesOfWrite write) ≤ i) → (i < start) ⊎ (start + span ≤ i)
-      here (inl h) = inl (omega (arith, next-is p))
-      here (inr h) = inr (omega (arith, next-is p, ap length (s .entries-is)))
+      ∙ take-drop-run (entryAddress i) 32 image (outside-take n (outside i (rw (next-is p, s .entries-is) at away)))
 
 pub alters-no-other-entry : AltersNoOtherEntry
 alters-no-other-entry image page items h write n b =

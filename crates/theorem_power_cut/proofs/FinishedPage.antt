@@ -25,7 +25,7 @@ use Rattle.sector.specs.declared.PageState.{PageState}
 use Rattle.sector.specs.declared.PageState.the-variants.{Uninitialized, Active, Full, Freeing, Corrupt, Invalid}
 use Rattle.sector.specs.Header.{stateOfWord, headerCrc, headerBody, headerBytes, isUninitialized}
 use Rattle.sector.specs.Item.{crcStart}
-use Rattle.sector.specs.Layout.{chunks, sequenceOf, storedHeaderCrc}
+use Rattle.sector.specs.Layout.{chunks, stateWord, sequenceOf, versionOf, storedHeaderCrc}
 use Rattle.sector.specs.Map.{countIn}
 use Rattle.sector.proofs.Laws.{number-littleEndian}
 use Rattle.call_page_state.specs.Calls.{initialiseChecks, initialisePlan, initialised, initialise, initialiseImage}
@@ -84,39 +84,36 @@ module _ (sequence : ℕ) (small : sequence < 0x1_0000_0000) where
   unfolding headerBytes
   sequence-read = number-littleEndian 4 sequence small
 
+  state-read : stateOfWord (stateWord header) ≡ Active
+  unfolding headerBytes stateOfWord
+  state-read = refl
+
+  version-read : versionOf header ≡ 0xFE
+  unfolding headerBytes
+  version-read = refl
+
   header-opens : HeaderOpens header
   unfolding headerBytes stateOfWord headerCrc
   header-opens = record { state = refl; version = refl; crc = eq-eqb crc (storedHeaderCrc header) (sym crc-read) }
 
   pub finished-held : Held finished (initialised uninitialized sequence) []
-  unfolding standing headerBytes initialised stateOfWord countIn
+  unfolding standing initialised countIn
   finished-held =
       record {
         standing = standing;
         opens = subst HeaderOpens (sym behind) (image-opens header (replicate 32 0xFF ++ replicate 4032 0xFF) (header-long sequence) header-opens);
-        page-is =
-            ap₂ (λ (crc sequence : ℕ). record {
-              state = Active;
-              sequence = sequence;
-              version = 0xFE;
-              crc = crc;
-              map = replicate 32 0xFF;
-              used = 0;
-              erased = 0;
-              len = 0;
-              list = replicate 126 noItem;
-            }) (sym crc-read) (sym sequence-read);
+        page-is = rw (state-read, sequence-read, version-read, crc-read);
       }
 
 -- ---- the record that is fit and Uninitialized
 
 state-is : (state : PageState) → isUninitialized state ≡ true → state ≡ Uninitialized
 state-is Uninitialized e = refl
-state-is Active e = let z : _≡_ {A = ℕ} 0 1 = cc in absurd (omega arith)
-state-is Full e = let z : _≡_ {A = ℕ} 0 1 = cc in absurd (omega arith)
-state-is Freeing e = let z : _≡_ {A = ℕ} 0 1 = cc in absurd (omega arith)
-state-is Corrupt e = let z : _≡_ {A = ℕ} 0 1 = cc in absurd (omega arith)
-state-is Invalid e = let z : _≡_ {A = ℕ} 0 1 = cc in absurd (omega arith)
+state-is Active e = cc
+state-is Full e = cc
+state-is Freeing e = cc
+state-is Corrupt e = cc
+state-is Invalid e = cc
 
 zero-place : (place : Listed) → placeZero place ≡ true → place ≡ noItem
 zero-place place e =
@@ -146,33 +143,23 @@ module _ (page : ThinPage) (code : AsInCode page) (fit : fitToUse page ≡ true)
       zero-list (page .list) (rw len-is at (fit-clauses page fit .behind-zero)) ∙ ap (λ (n : ℕ). replicate n noItem) (code .2) in
       let map-is : page .map ≡ replicate 32 0xFF =
       replicate-all-ones (page .map) (len .1) ∙ ap (λ (n : ℕ). replicate {A = ℕ} n 0xFF) (code .0) in
-      same (
-        state,
-        eqb-true (page .sequence) 0 (sequence .0),
-        eqb-true (page .version) 0 (version .0),
-        eqb-true (page .crc) 0 (crc .0),
-        map-is,
-        eqb-true (page .used) 0 (used .0),
-        eqb-true (page .erased) 0 (erased .0),
-        len-is,
-        list-is,
-      )
-    where
-      same : (page .state ≡ Uninitialized) × (page .sequence ≡ 0) × (page .version ≡ 0) × (page .crc ≡ 0) × (page .map ≡ replicate 32 0xFF)
-          × (page .used ≡ 0) × (page .erased ≡ 0) × (page .len ≡ 0) × (page .list ≡ replicate 126 noItem) → page ≡ uninitialized
-      same e =
-          let fields : record {
-            state = page .state;
-            sequence = page .sequence;
-            version = page .version;
-            crc = page .crc;
-            map = page .map;
-            used = page .used;
-            erased = page .erased;
-            len = page .len;
-            list = page .list;
-          } ≡ uninitialized = rw (e .0, e .1, e .2, e .3, e .4, e .5, e .6, e .7, e .8) in
-          fields
+      let sequence-is = eqb-true (page .sequence) 0 (sequence .0) in
+      let version-is = eqb-true (page .version) 0 (version .0) in
+      let crc-is = eqb-true (page .crc) 0 (crc .0) in
+      let used-is = eqb-true (page .used) 0 (used .0) in
+      let erased-is = eqb-true (page .erased) 0 (erased .0) in
+      let fields : record {
+        state = page .state;
+        sequence = page .sequence;
+        version = page .version;
+        crc = page .crc;
+        map = page .map;
+        used = page .used;
+        erased = page .erased;
+        len = page .len;
+        list = page .list;
+      } ≡ uninitialized = rw (state, sequence-is, version-is, crc-is, map-is, used-is, erased-is, len-is, list-is) in
+      fields
 
 -- ---- any call that is done
 

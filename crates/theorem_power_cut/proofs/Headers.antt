@@ -2,7 +2,7 @@
 --
 -- In order: what of a header decides whether its page opens; the state word; a header with Full programmed, or not.
 use mathlib.Core.Path.{_≡_, refl, sym, ap, _∙_, subst}
-use mathlib.Core.Bool.{Bool, true, false, _&&_, not, cond}
+use mathlib.Core.Bool.{Bool, true, false, _&&_, not, cond, and-eq-true-iff}
 use mathlib.Core.List.{List, [], _∷_, _++_}
 use Prim.Native.Nat.{ℕ, zero, suc, _≤_}
 use native.Mathlib.Omega.{arith}
@@ -31,20 +31,29 @@ pub record HeaderOpens (header : List ℕ) : Type 0 where
   pub version : eqb (versionOf header) 0xFE ≡ true
   pub crc : eqb (headerCrc header) (storedHeaderCrc header) ≡ true
 
-by-verdict : (blank state version crc : Bool)
-    → cond blank Blank (cond (not state) WrongPageState (cond (not version) WrongVersion (cond (not crc) WrongHeaderCrc Opens))) ≡ Opens
-    → (state ≡ true) × (version ≡ true) × (crc ≡ true)
-by-verdict true state version crc e = let z : _≡_ {A = ℕ} 0 1 = cc in absurd (omega arith)
-by-verdict false false version crc e = let z : _≡_ {A = ℕ} 0 1 = cc in absurd (omega arith)
-by-verdict false true false crc e = let z : _≡_ {A = ℕ} 0 1 = cc in absurd (omega arith)
-by-verdict false true true false e = let z : _≡_ {A = ℕ} 0 1 = cc in absurd (omega arith)
-by-verdict false true true true e = (refl, refl, refl)
+-- where the page opens none of the rules holds, and it is blank by its own rule alone
+by-rules : (blank state version crc : Bool)
+    → let verdict = cond blank Blank (cond (not state) WrongPageState (cond (not version) WrongVersion (cond (not crc) WrongHeaderCrc Opens))) in
+    (verdict ≡ Opens → (state ≡ true) × (version ≡ true) × (crc ≡ true)) × (verdict ≡ Blank → blank ≡ true)
+by-rules true state version crc = ((λ e. (cc, cc, cc)), (λ e. refl))
+by-rules false false version crc = ((λ e. (cc, cc, cc)), (λ e. cc))
+by-rules false true false crc = ((λ e. (cc, cc, cc)), (λ e. cc))
+by-rules false true true false = ((λ e. (cc, cc, cc)), (λ e. cc))
+by-rules false true true true = ((λ e. (refl, refl, refl)), (λ e. cc))
 
 pub opens-facts : (image : List ℕ) → headerVerdictOf image ≡ Opens → HeaderOpens image
 unfolding headerVerdictOf
 opens-facts image e =
-    let facts = by-verdict (isUninitialized (stateOfWord (stateWord image)) && allOnes image) (isInUse (stateOfWord (stateWord image))) (eqb (versionOf image) 0xFE) (eqb (headerCrc image) (storedHeaderCrc image)) e in
+    let state = stateOfWord (stateWord image) in
+    let facts = by-rules (isUninitialized state && allOnes image) (isInUse state) (eqb (versionOf image) 0xFE) (eqb (headerCrc image) (storedHeaderCrc image)) .0 e in
     record { state = facts .0; version = facts .1; crc = facts .2 }
+
+pub blank-facts : (image : List ℕ) → headerVerdictOf image ≡ Blank → allOnes image ≡ true
+unfolding headerVerdictOf
+blank-facts image e =
+    let state = stateOfWord (stateWord image) in
+    let none = by-rules (isUninitialized state && allOnes image) (isInUse state) (eqb (versionOf image) 0xFE) (eqb (headerCrc image) (storedHeaderCrc image)) .1 e in
+    and-eq-true-iff (isUninitialized state) (allOnes image) .0 none .1
 
 pub opens-of : (image : List ℕ) → HeaderOpens image → headerVerdictOf image ≡ Opens
 unfolding headerVerdictOf
@@ -86,12 +95,12 @@ among-active word e =
   where
     by-tests : (a b : Bool) → eqb word 0xFFFFFFFE ≡ b → (c d f : Bool)
         → cond a Uninitialized (cond b Active (cond c Full (cond d Freeing (cond f Invalid Corrupt)))) ≡ Active → word ≡ 0xFFFFFFFE
-    by-tests true b h c d f e = let z : _≡_ {A = ℕ} 0 1 = cc in absurd (omega arith)
+    by-tests true b h c d f e = cc
     by-tests false true h c d f e = eqb-true word 0xFFFFFFFE h
-    by-tests false false h true d f e = let z : _≡_ {A = ℕ} 0 1 = cc in absurd (omega arith)
-    by-tests false false h false true f e = let z : _≡_ {A = ℕ} 0 1 = cc in absurd (omega arith)
-    by-tests false false h false false true e = let z : _≡_ {A = ℕ} 0 1 = cc in absurd (omega arith)
-    by-tests false false h false false false e = let z : _≡_ {A = ℕ} 0 1 = cc in absurd (omega arith)
+    by-tests false false h true d f e = cc
+    by-tests false false h false true f e = cc
+    by-tests false false h false false true e = cc
+    by-tests false false h false false false e = cc
 
 -- the bytes of a number are its own
 word-bytes : {header : List ℕ} → Bytes header → 4 ≤ length header → number (take 4 header) ≡ 0xFFFFFFFE → take 4 header ≡ stateBytes Active

@@ -2,7 +2,7 @@
 --
 -- In order: a page that is held; what opening leaves.
 use mathlib.Core.Path.{_≡_, refl, sym, ap, _∙_, subst}
-use mathlib.Core.Bool.{Bool, true, false, _&&_, not, cond}
+use mathlib.Core.Bool.{true}
 use mathlib.Core.List.{List, [], _++_}
 use Prim.Native.Nat.{ℕ, _*_}
 use native.Mathlib.Omega.{arith}
@@ -15,8 +15,7 @@ use Rattle.flash.proofs.Laws.{Bytes, replicate-all-ones}
 use Rattle.page.specs.declared.ThinPage.{ThinPage}
 use Rattle.page.specs.Record.{uninitialized}
 use Rattle.sector.specs.declared.Answer.the-variants.{Done}
-use Rattle.sector.specs.Header.{stateOfWord, headerCrc, isUninitialized, isInUse}
-use Rattle.sector.specs.Layout.{stateWord, versionOf, storedHeaderCrc, mapOf, entriesOf}
+use Rattle.sector.specs.Layout.{mapOf, entriesOf}
 use Rattle.sector.proofs.Marks.{image-parts, mapOf-parts}
 use Rattle.opening_reading.specs.Reading.{Item}
 use Rattle.opening.specs.Opening.{headerVerdictOf, keptItems, openedMap, openingPlan, openedPage, answerFor, opening, openingImage}
@@ -28,7 +27,7 @@ use Rattle.theorem_power_cut.proofs.Standing.{Standing, standing-map}
 use Rattle.theorem_power_cut.proofs.OpenedPage.{run-opening, opened-size, opened-standing}
 use Rattle.theorem_power_cut.proofs.Laid.{bytes-of}
 use Rattle.theorem_power_cut.proofs.AtHand.{pageOf, opened-is}
-use Rattle.theorem_power_cut.proofs.Headers.{HeaderOpens, opens-facts, header-opens, image-opens}
+use Rattle.theorem_power_cut.proofs.Headers.{HeaderOpens, opens-facts, blank-facts, header-opens, image-opens}
 
 -- ---- a page that is held
 
@@ -98,24 +97,6 @@ blank-kept = keptFrom-empties 126 0 (entriesOf (replicate 4096 0xFF))
 pub blank-image : (image : List ℕ) → length image ≡ 4096 → allOnes image ≡ true → image ≡ replicate 4096 0xFF
 blank-image image size e = replicate-all-ones image e ∙ ap (λ (n : ℕ). replicate {A = ℕ} n 0xFF) size
 
-blank-verdict : (image : List ℕ) → headerVerdictOf image ≡ Blank → allOnes image ≡ true
-unfolding headerVerdictOf
-blank-verdict image e =
-    by-tests (isUninitialized (stateOfWord (stateWord image))) (allOnes image) refl (isInUse (stateOfWord (stateWord image))) (eqb (versionOf image) 0xFE) (eqb (headerCrc image) (storedHeaderCrc image)) e
-  where
-    by-tests : (none ones : Bool) → allOnes image ≡ ones → (state version crc : Bool)
-        → cond (none && ones) Blank (cond (not state) WrongPageState (cond (not version) WrongVersion (cond (not crc) WrongHeaderCrc Opens))) ≡ Blank
-        → allOnes image ≡ true
-    by-tests true true h state version crc e = h
-    by-tests true false h false version crc e = let z : _≡_ {A = ℕ} 0 1 = cc in absurd (omega arith)
-    by-tests true false h true false crc e = let z : _≡_ {A = ℕ} 0 1 = cc in absurd (omega arith)
-    by-tests true false h true true false e = let z : _≡_ {A = ℕ} 0 1 = cc in absurd (omega arith)
-    by-tests true false h true true true e = let z : _≡_ {A = ℕ} 0 1 = cc in absurd (omega arith)
-    by-tests false ones h false version crc e = let z : _≡_ {A = ℕ} 0 1 = cc in absurd (omega arith)
-    by-tests false ones h true false crc e = let z : _≡_ {A = ℕ} 0 1 = cc in absurd (omega arith)
-    by-tests false ones h true true false e = let z : _≡_ {A = ℕ} 0 1 = cc in absurd (omega arith)
-    by-tests false ones h true true true e = let z : _≡_ {A = ℕ} 0 1 = cc in absurd (omega arith)
-
 pub opened-known : (image : List ℕ) → Sector image → opening image .answer ≡ Done → Known (openingImage image) (opening image .page) (keptItems image)
 unfolding opening openingImage
 opened-known image sector d = by-verdict (headerVerdictOf image) refl (rw (sector-size image (sector .size)) at d)
@@ -124,7 +105,7 @@ opened-known image sector d = by-verdict (headerVerdictOf image) refl (rw (secto
         → Known (openingImage image) (opening image .page) (keptItems image)
     by-verdict Opens e d = rw (sector-size image (sector .size), e) (held (opened-held image sector e))
     by-verdict Blank e d =
-        let ones = blank-image image (sector .size) (blank-verdict image e) in
+        let ones = blank-image image (sector .size) (blank-facts image e) in
         rw (sector-size image (sector .size), e) (blank (unfold run in ones) refl (ap keptItems ones ∙ blank-kept))
     by-verdict WrongPageState e d = let z : _≡_ {A = ℕ} 0 1 = cc in absurd (omega arith)
     by-verdict WrongVersion e d = let z : _≡_ {A = ℕ} 0 1 = cc in absurd (omega arith)

@@ -116,14 +116,13 @@ module _ (image : List ℕ) (size : length image ≡ 4096) (bytes : Bytes image)
   left : Opened (openedStates states entries) entries
   left = opened states entries same-size
 
-  n : ℕ
+  abbrev n : ℕ
   n = length (left .front)
 
-  m : ℕ
+  abbrev m : ℕ
   m = length (left .blanks)
 
   sum : n + m ≡ 126
-  unfolding n m
   sum =
       omega (
         arith,
@@ -137,22 +136,19 @@ module _ (image : List ℕ) (size : length image ≡ 4096) (bytes : Bytes image)
   rest-size : length rest ≡ 4032
   rest-size = rw length-drop (omega arith)
 
-  used : List ℕ
+  abbrev used : List ℕ
   used = take (32 * n) rest
 
-  tail : List ℕ
+  abbrev tail : List ℕ
   tail = drop (32 * n) rest
 
   used-size : length used ≡ 32 * n
-  unfolding used
   used-size = length-take-le (32 * n) rest (omega (arith, rest-size, sum))
 
   tail-size : length tail ≡ 32 * m
-  unfolding tail
   tail-size = rw length-drop (omega (arith, rest-size, sum))
 
   rest-parts : rest ≡ used ++ tail
-  unfolding used tail
   rest-parts = sym (take-append-drop (32 * n) rest)
 
   entries-parts-two : left .bytes ++ left .blanks ≡ chunks n used ++ chunks m tail
@@ -162,7 +158,6 @@ module _ (image : List ℕ) (size : length image ≡ 4096) (bytes : Bytes image)
       ∙ chunks-append n m used tail used-size
 
   bytes-length : length (left .bytes) ≡ n
-  unfolding n
   bytes-length = sym (length-closed (left .closed))
 
   front-entries : left .bytes ≡ chunks n used
@@ -205,10 +200,10 @@ module _ (image : List ℕ) (size : length image ≡ 4096) (bytes : Bytes image)
         split = run-opening ∙ ap (λ (tail : List ℕ). header ++ (openedMap image ++ tail)) (rest-parts ∙ ap (λ (blanks : List ℕ). used ++ blanks) tail-blank);
         header-size = header-size;
         map-size = opened-size;
-        used-size = unfold n in used-size;
-        sum = unfold n in sum;
+        used-size = used-size;
+        sum = sum;
         bytes = bytes-run (openingPlan image) bytes;
-        states = opened-states ∙ (unfold m in left .states-split);
-        closed = unfold n in (rw front-entries at (left .closed));
-        kept = unfold n in (rw front-entries at same-items);
+        states = opened-states ∙ left .states-split;
+        closed = rw front-entries at (left .closed);
+        kept = rw front-entries at same-items;
       }
