@@ -159,12 +159,17 @@ pub record MarkedTo (image map now : List ℕ) (i : ℕ) : Type 0 where
 pub marked-start : (image map : List ℕ) → length map ≡ 32 → Bytes map → MarkedTo image map map 0
 marked-start image map long b = record { marks = refl; left = refl; spare = refl; bytes = b; whole = long }
 
+-- at the end of the page nothing is left
+none-left : (map : List ℕ) (i : ℕ) → length map ≡ 32 → i ≡ 126 → drop i (statesOf map) ≡ []
+none-left map i long e =
+    let short : length (statesOf map) ≤ i = omega (arith, length-statesOf map long) in
+    drop-of-length-le (statesOf map) short
+
 pub marked-end : (image map now : List ℕ) (i : ℕ) → length map ≡ 32 → i ≡ 126 → MarkedTo image map now i
     → HasStates map (walk zero Erased (statesOf map) (entriesOf image)) now
 marked-end image map now i long e to =
-    let short : length (statesOf map) ≤ i = omega (arith, length-statesOf map long) in
     let fits : length (statesOf now) ≤ i = omega (arith, length-statesOf now (to .whole)) in
-    let none = drop-of-length-le (statesOf map) short in
+    let none = none-left map i long e in
     let all = take-all i (statesOf now) fits in
     record { states-are = sym (append-nil (statesOf now)) ∙ (rw (none, all) at (to .marks)); spare = to .spare }
 
@@ -245,8 +250,7 @@ pub heads-end : (image map : List ℕ) (heads : List Bool) (i : ℕ) → length 
     → heads ≡ refusedHeaders zero (statesOf map) (entriesOf image)
 heads-end image map heads i long e to =
     let whole = to .whole in
-    let short : length (statesOf map) ≤ i = omega (arith, length-statesOf map long) in
-    let none = drop-of-length-le (statesOf map) short in
+    let none = none-left map i long e in
     let all = take-all i heads (omega arith) in
     sym (append-nil heads) ∙ (rw (none, all) at (to .marks))
 
@@ -296,8 +300,7 @@ pub listed-end : (image map : List ℕ) (listing : Listing) (i : ℕ) → length
     → listing ≡ listingOf (listedItems (keptFrom zero zero (statesOf map) (entriesOf image)))
 listed-end image map listing i long e to =
     let all = listedItems (keptFrom zero zero (statesOf map) (entriesOf image)) in
-    let short : length (statesOf map) ≤ i = omega (arith, length-statesOf map long) in
-    let none : drop (listing .len) all ≡ [] = to .left ∙ rw (drop-of-length-le (statesOf map) short) in
+    let none : drop (listing .len) all ≡ [] = to .left ∙ rw (none-left map i long e) in
     to .places ∙ ap listingOf (sym (append-nil (take (listing .len) all)) ∙ (rw none at (take-append-drop (listing .len) all)))
 
 listing-more : (all rest : List Listed) (listing : Listing) (place : Listed) → listing .len < 126

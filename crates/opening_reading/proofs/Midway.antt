@@ -1,7 +1,7 @@
 -- A page midway: some of its marks are already those that opening leaves, and bytes of entries that are not read may have changed. Opened, it comes
 -- to the same.
 --
--- In order: a state marked Written; states that come out alike behind the walk; the page midway; its walk comes out alike, and it keeps the same items.
+-- In order: a state marked Written; states that come out alike after the walk; the page midway; its walk comes out alike, and it keeps the same items.
 -- The theorems about opening twice, about a cut during opening and about the bytes of Erased entries each show that a page is midway.
 use mathlib.Core.Path.{_≡_, refl, sym, ap, _∙_}
 use mathlib.Core.Bool.{true, false, _&&_}
@@ -25,7 +25,7 @@ both-written Written u = refl
 both-written Erased u = cc
 both-written Illegal u = cc
 
--- ---- alike behind the walk
+-- ---- alike after the walk
 
 -- the free tail is the same, and so is all that opening leaves
 pub record Alike (xs ys : States) (bytes entries : Entries) : Type 0 where

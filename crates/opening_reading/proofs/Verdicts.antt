@@ -64,7 +64,7 @@ header-same : (entry : List ℕ) (left other : ℕ) → covered entry ≤ left �
 unfolding headerRefusal
 header-same entry left other h k = rw (le-ltb left (covered entry) h, le-ltb other (covered entry) k)
 
--- it stands wherever as many entries lie behind it
+-- it stands wherever as many entries lie after it
 pub header-elsewhere : (entry : List ℕ) (left other : ℕ) → headerRefusal entry left ≡ none → covered entry ≤ other → headerRefusal entry other ≡ none
 header-elsewhere entry left other h k = header-same entry left other (header-fits entry left h) k ∙ h
 
@@ -82,7 +82,7 @@ whole-fits {entry} {k} {entries} w = omega (arith, header-fits entry (length ent
 pub whole-span : {entry : List ℕ} {k : ℕ} {entries : Entries} → Whole entry k entries → spanOf entry ≡ suc k
 whole-span {entry} {k} {entries} w = omega (arith, header-span entry (length entries) (w .header), w .span)
 
--- it is whole with the same covered entries, whatever lies behind them
+-- it is whole with the same covered entries, whatever lies after them
 pub whole-elsewhere : {entry : List ℕ} {k : ℕ} {entries others : Entries} → Whole entry k entries → k ≤ length others
     → take k others ≡ take k entries → Whole entry k others
 whole-elsewhere {entry} {k} {entries} {others} w h e =

@@ -33,11 +33,11 @@ firstRule (rule ∷ rules) = cond (rule .0) (some (rule .1)) (firstRule rules)
 abbrev pub isPayload : List ℕ → Bool
 isPayload entry = hasPayload (itemType (typeByteOf entry))
 
--- entries behind the header
+-- entries after the header
 abbrev pub covered : List ℕ → ℕ
 covered entry = spanOf entry - 1
 
--- span is 0, or leaves the page, of which `left` entries lie behind this one
+-- span is 0, or leaves the page, of which `left` entries lie after this one
 abbrev pub spanOffPage : List ℕ → ℕ → Bool
 spanOffPage entry left = eqb (spanOf entry) 0 || ltb left (covered entry)
 
@@ -101,7 +101,7 @@ headerVerdict (some reason) entry states entries = RefusedEntry reason
 headerVerdict none entry states entries =
     itemVerdict (payloadRefusal entry (take (covered entry) entries)) (usable (covered entry) states) (covered entry)
 
--- by the entry's state and bytes, and those of the entries behind it
+-- by the entry's state and bytes, and those of the entries after it
 abbrev pub verdictAt : EntryMapState → List ℕ → List EntryMapState → List (List ℕ) → Verdict
 verdictAt Empty entry states entries = NotAnItem
 verdictAt Written entry states entries = headerVerdict (headerRefusal entry (length entries)) entry states entries
@@ -110,7 +110,7 @@ verdictAt Illegal entry states entries = NotAnItem
 
 -- ---- the walk
 
--- entries that the walk steps over behind this one
+-- entries that the walk steps over after this one
 abbrev pub stepsOver : Verdict → ℕ
 stepsOver NotAnItem = 0
 stepsOver (RefusedEntry reason) = 0

@@ -25,7 +25,7 @@ pub enum Reason {
 }
 
 // What the reading makes of an entry: no item is looked for; the entry is refused; a payload item is refused, or an
-// item is kept, with the entries that it covers behind its header.
+// item is kept, with the entries that it covers after its header.
 pub enum Verdict {
     NotAnItem,
     RefusedEntry(Reason),
@@ -107,7 +107,7 @@ fn written_verdict(image: &[u8], map: [u8; 32], index: usize) -> Verdict
     Verdict::Kept(0)
 }
 
-// The verdict at an entry, by the map and by the bytes of this entry and of those behind it.
+// The verdict at an entry, by the map and by the bytes of this entry and of those after it.
 pub fn verdict_at(image: &[u8], map: [u8; 32], index: usize) -> Verdict
     requires { ⌜ (length (now image) ≡ sectorSize) × (index < entriesPerPage) ⌝ }
     ensures { λ r. ⌜ r ≡ verdictAt (stateAt map index) (entryAt (now (image .entry)) index) (drop (index + 1) (statesOf map)) (drop (index + 1) (entriesOf (now (image .entry)))) ⌝ }

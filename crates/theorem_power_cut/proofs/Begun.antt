@@ -44,7 +44,7 @@ pub record Lays {image : List ℕ} {items : List Item} (p : Standing image items
 -- ---- what the reading keeps, whatever the header
 
 module _ {image : List ℕ} {items : List Item} (p : Standing image items) where
-  -- with any bytes behind the entries in use
+  -- with any bytes after the entries in use
   pub kept-any : (header rest : List ℕ) → length header ≡ 32 → keptItems (header ++ (p .map ++ (p .used ++ rest))) ≡ items
   unfolding keptItems
   kept-any header rest h =
@@ -113,7 +113,7 @@ module _ {image : List ℕ} {items : List Item} (p : Standing image items) {entr
       ∙ marked-at Written (p .front) (replicate span Empty ++ replicate left Empty) span
       ∙ ap (λ (tail : States). p .front ++ tail) (marked-empty Written span (replicate left Empty))
 
-  -- the marks of the first units: the header's, and some of those behind it
+  -- the marks of the first units: the header's, and some of those after it
   states-cut : (reach : ℕ) → start < reach
       → take reach (marked Written start span (statesOf (p .map))) ++ drop reach (statesOf (p .map))
       ≡ p .front ++ (Written ∷ mixed (reach - suc start) (length new) ++ replicate left Empty)
@@ -169,7 +169,7 @@ module _ {image : List ℕ} {items : List Item} (p : Standing image items) {entr
       let reach = 4 * (start / 16 + (n - length us)) in
       take reach (markRange Written start span (p .map)) ++ drop reach (p .map)
 
-  -- what lies behind the header then
+  -- what lies after the header then
   abbrev pub restAt : ℕ → List ℕ
   restAt n = mapAt n ++ (p .used ++ (w .laid ++ behind))
 

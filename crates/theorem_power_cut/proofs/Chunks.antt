@@ -1,4 +1,4 @@
--- Entries cut out of bytes that are joined, or longer. Other laws of `chunks` are sector's (Laws) and reading's (Entries).
+-- Entries cut out of bytes that are joined, or longer. Other laws of `chunks` are sector's (Laws) and opening_reading's (Entries).
 use mathlib.Core.Path.{_≡_, refl, sym, ap, ap₂, _∙_}
 use mathlib.Core.List.{List, [], _∷_, _++_}
 use Prim.Native.Nat.{ℕ, zero, suc, _+_, _*_, _≤_}

@@ -1,6 +1,6 @@
 -- Erasing one whole kept item of a page that is held: the page is held again, without the item.
 --
--- In order: the items and the list without an index; the page and the record behind.
+-- In order: the items and the list without an index; the page and the record without it.
 use mathlib.Core.Path.{_≡_, refl, sym, ap, ap₂, _∙_, subst}
 use mathlib.Core.Bool.{Bool, true, false, cond}
 use mathlib.Core.List.{List, [], _∷_, _++_, List·Memᴰ}
@@ -79,7 +79,7 @@ listed-without index (item i entries ∷ items) =
     by-tests false n true g e = rw (n, g) e
     by-tests false n false g e = rw (n, g) (rw n (ap (λ (places : List Listed). place-of ∷ places) e))
 
--- ---- the page behind
+-- ---- the page without the item
 
 all-written : (n : ℕ) → every (sameState Written) (replicate n Written) ≡ true
 all-written zero = refl

@@ -8,7 +8,7 @@ use Prim.Native.Nat.{ℕ, zero, suc, _≤_}
 use native.Mathlib.Omega.{arith}
 use lib.Dec.{eqb}
 use lib.ListN.{length, take, drop, getD, take-append-drop}
-use lib.Seq.{getD-take, getD-drop, take-at, drop-drop}
+use lib.Seq.{getD-take, getD-drop, take-at, take-length, drop-drop}
 use borrow.Author.Tests.{eqb-true}
 use Rattle.crc.specs.Crc.{crc32}
 use Rattle.flash.specs.Flash.{units, run, program, allOnes}
@@ -120,7 +120,7 @@ active-word {header} bytes size e = word-bytes bytes (omega arith) (among-active
 
 -- ---- Full, programmed or not
 
--- an Active header is the state word and what is behind it
+-- an Active header is the state word and what is after it
 header-split : (header : List ℕ) → take 4 header ≡ stateBytes Active → header ≡ stateBytes Active ++ drop 4 header
 header-split header e = sym (take-append-drop 4 header) ∙ ap (λ (word : List ℕ). word ++ drop 4 header) e
 
@@ -149,12 +149,7 @@ full-cut {header} q end e = by-test (eqb end 126) q
     by-test false (suc q) = not-full refl
 
 pub full-whole : {header : List ℕ} (end : ℕ) → take 4 header ≡ stateBytes Active → FullOrNot header (run (fullUnits end) header)
-unfolding run units allOnes
-full-whole {header} end e = by-test (eqb end 126)
-  where
-    by-test : (last : Bool) → FullOrNot header (run (cond last (units 0 (stateBytes Full)) []) header)
-    by-test true = is-full (full-programmed header e)
-    by-test false = not-full refl
+full-whole {header} end e = rw (take-length (fullUnits end)) at (full-cut {header = header} (length (fullUnits end)) end e)
 
 pub full-drop : {header after : List ℕ} → FullOrNot header after → drop 4 after ≡ drop 4 header
 full-drop (not-full e) = ap (drop 4) e

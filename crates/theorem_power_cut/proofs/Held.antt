@@ -22,10 +22,10 @@ use Rattle.opening.specs.Opening.{headerVerdictOf, keptItems, openedMap, openin
 use Rattle.opening.specs.declared.HeaderVerdict.{HeaderVerdict}
 use Rattle.opening.specs.declared.HeaderVerdict.the-variants.{Blank, Opens, WrongPageState, WrongVersion, WrongHeaderCrc}
 use Rattle.theorem_reopening.proofs.Cuts.{keptFrom-empties}
+use Rattle.theorem_writing.proofs.FitRecords.{bytes-of}
 use Rattle.theorem_power_cut.specs.History.{Sector}
 use Rattle.theorem_power_cut.proofs.Standing.{Standing, standing-map}
 use Rattle.theorem_power_cut.proofs.OpenedPage.{run-opening, opened-size, opened-standing}
-use Rattle.theorem_power_cut.proofs.Laid.{bytes-of}
 use Rattle.theorem_power_cut.proofs.AtHand.{pageOf, opened-is}
 use Rattle.theorem_power_cut.proofs.Headers.{HeaderOpens, opens-facts, blank-facts, header-opens, image-opens}
 

@@ -50,7 +50,7 @@ header-bytes sequence =
     bytes-append (bytes-littleEndian 4 0xFFFFFFFE)
     (bytes-append (bytes-append (bytes-littleEndian 4 sequence) (bytes-append (bytes-littleEndian 1 0xFE) (bytes-ones 19))) (bytes-littleEndian 4 (crc32 crcStart (headerBody sequence))))
 
--- the bytes of the first n units, and 0xFF behind them
+-- the bytes of the first n units, and 0xFF after them
 program-blank : {bytes : List ℕ} → Bytes bytes → length bytes ≤ 4096 → program blank 0 bytes ≡ bytes ++ replicate (4096 - length bytes) 0xFF
 program-blank {bytes} b h =
     ap (λ (image : List ℕ). program image 0 bytes) (sym (append-nil blank))

@@ -1,4 +1,4 @@
--- The writes of the calls, as writes on a page that stands: a single entry, a payload behind its header, a copy.
+-- The writes of the calls, as writes on a page that stands: a single entry, a payload after its header, a copy.
 --
 -- In order: the bytes of new items; one write of whole entries; header and payload; a copy.
 use mathlib.Core.Path.{_≡_, sym, ap, ap₂, _∙_, subst}
@@ -6,11 +6,8 @@ use mathlib.Core.Bool.{true}
 use mathlib.Core.List.{List, [], _∷_, _++_, append-assoc, append-nil}
 use Prim.Native.Nat.{ℕ, zero, suc, _+_, _-_, _*_, _/_, _%_, _≤_, _<_}
 use native.Mathlib.Omega.{arith}
-use lib.Dec.{ltb}
 use lib.ListN.{length, take, drop, replicate, length-append, length-replicate, length-drop}
 use lib.Seq.{take-all, take-at, drop-at, drop-drop, length-take-le}
-use borrow.Author.Tests.{ltb-true}
-use mathlib.Core.Bool.{and-eq-true-iff}
 use Rattle.flash.specs.Flash.{units, run}
 use Rattle.flash.proofs.Laws.{Bytes, bytes-nil, bytes-cons, bytes-append, bytes-ones, bytes-take, bytes-drop, bytes-run, run-append, run-units-erased, within-units, within-wider, within-append}
 use Rattle.crc.specs.Crc.{crc32}
@@ -24,7 +21,8 @@ use Rattle.call_append.specs.Append.{isSingle, singleBytes, spanFor, variableHe
 use Rattle.call_copy.specs.Copy.{copiedBytes}
 use Rattle.opening_reading.specs.Reading.{Item}
 use Rattle.opening_reading.proofs.Verdicts.{Entries, Whole, whole-span}
-use Rattle.theorem_power_cut.specs.History.{allBytes, SingleRequest, VariableRequest, KeptIn, payloadEntries}
+use Rattle.theorem_writing.proofs.FitRecords.{bytes-of}
+use Rattle.theorem_power_cut.specs.History.{SingleRequest, VariableRequest, KeptIn, payloadEntries}
 use Rattle.theorem_power_cut.proofs.Standing.{Standing, front-bytes, front-size, regroup, blank-parts}
 use Rattle.opening_reading.proofs.Entries.{take-chunks, drop-chunks}
 use Rattle.theorem_power_cut.proofs.Chunks.{chunks-take}
@@ -34,12 +32,6 @@ use Rattle.theorem_power_cut.proofs.Begun.{Lays}
 use Rattle.theorem_reopening.proofs.KeptItem.{WholeAt}
 
 -- ---- bytes
-
-pub bytes-of : (bytes : List ℕ) → allBytes bytes ≡ true → Bytes bytes
-bytes-of [] e = bytes-nil
-bytes-of (x ∷ bytes) e =
-    let both = and-eq-true-iff (ltb x 256) (allBytes bytes) .0 e in
-    bytes-cons (ltb-true x 256 (both .0)) (bytes-of bytes (both .1))
 
 pub bytes-littleEndian : (n x : ℕ) → Bytes (littleEndian n x)
 bytes-littleEndian zero x = bytes-nil
@@ -145,7 +137,7 @@ module _ {image : List ℕ} {items : List Item} (p : Standing image items) where
     abbrev laid : List ℕ
     laid = header ++ (payload ++ gap)
 
-    -- then the payload behind it
+    -- then the payload after it
     after-payload : run (units (entryAddress start) header ++ units (entryAddress (start + 1)) payload) image ≡ front-bytes p ++ (laid ++ behind)
     after-payload =
         let front = front-bytes p ++ header in

@@ -42,7 +42,7 @@ no-rule : (big wrong : Bool) → firstRule ((big, SizeTooBig) ∷ (wrong, Payloa
 no-rule true wrong h = cc
 no-rule false wrong h = refl
 
--- a payload that no rule refuses fits the entries behind its header
+-- a payload that no rule refuses fits the entries after its header
 payload-fits : (entry : List ℕ) (entries : Entries) → isPayload entry ≡ true → payloadRefusal entry entries ≡ none → sizeOf entry ≤ 32 * covered entry
 unfolding payloadRefusal
 payload-fits entry entries typed h =

@@ -1,6 +1,6 @@
 -- What opening's map units do to an image: a map turns into another, unit by unit.
 --
--- In order: a map that is new up to a byte and old behind it; one unit; the units in which two maps differ, all of them and the first n.
+-- In order: a map that is new up to a byte and old after it; one unit; the units in which two maps differ, all of them and the first n.
 use mathlib.Core.Path.{_≡_, refl, sym, ap, ap₂, _∙_}
 use mathlib.Core.Bool.{Bool, true, false, cond, and-eq-true-iff}
 use mathlib.Core.List.{List, [], _∷_, _++_, append-assoc}
@@ -17,7 +17,7 @@ use Rattle.flash.proofs.Laws.{Bytes, bytes-program, OnlyClears, clears-nil, cle
 use Rattle.sector.specs.Layout.{mapOffset, sameBytes}
 use Rattle.opening_marks.specs.Marks.{mapUnit, changedUnits}
 
--- ---- new up to a byte, old behind it
+-- ---- new up to a byte, old after it
 
 abbrev pub splice : ℕ → List ℕ → List ℕ → List ℕ
 splice m new old = take m new ++ drop m old
@@ -119,7 +119,7 @@ module _ (header old new entries : List ℕ) (header-size : length header ≡ 32
   pub run-pass : run (changedUnits 0 8 old new) (header ++ (old ++ entries)) ≡ header ++ (new ++ entries)
   run-pass = run-changed 0 8 (omega arith) ∙ ap (λ (map : List ℕ). header ++ (map ++ entries)) (splice-all 32 clears (omega (arith, new-size)))
 
-  -- the first n of them: the map is new up to some unit, and old behind it
+  -- the first n of them: the map is new up to some unit, and old after it
   pub record Reached (j m n : ℕ) : Type 0 where
     pub unit-at : ℕ
     pub to : unit-at ≤ j + m

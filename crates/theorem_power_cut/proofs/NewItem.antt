@@ -101,7 +101,7 @@ payload-stands entry entries typed size crc =
 
 -- ---- a single entry
 
--- whatever lies behind it
+-- whatever lies after it
 pub single-whole : (request : Single) → isSingle (itemType (request .kind)) ≡ true → (rest : Entries) → Whole (singleBytes request) 0 rest
 single-whole request h rest =
     record {
@@ -125,7 +125,7 @@ module _ (request : Variable) (payload : List ℕ) (asked : VariableRequest requ
   small : length payload < 256 ^ 2
   small = omega (arith, fits)
 
-  -- the data field, behind the key
+  -- the data field, after the key
   new-data : drop 24 (variableHeader request payload) ≡ sizedData payload
   unfolding itemBytes
   new-data = drop-at (request .key) (sizedData payload) 16 (asked .key-size)
@@ -140,7 +140,7 @@ module _ (request : Variable) (payload : List ℕ) (asked : VariableRequest requ
       ap (λ (field : List ℕ). number (take 4 field)) (sym (drop-drop 4 24 (variableHeader request payload)) ∙ ap (drop 4) new-data)
       ∙ number-littleEndian 4 (crc32 crcStart payload) (crc-lt crcStart payload)
 
-  -- entries behind the header
+  -- entries after the header
   abbrev pub behind : ℕ
   behind = spanFor (length payload) - 1
 

@@ -27,11 +27,11 @@ use Rattle.opening.specs.declared.HeaderVerdict.the-variants.{Blank, Opens, Wro
 use Rattle.theorem_reopening.proofs.Reopened.{length-openedStates}
 use Rattle.opening_reading.proofs.Verdicts.{States, Entries}
 use Rattle.theorem_reopening.proofs.TwoPasses.{the-old, the-new, Mix, mix-nil, mix-cons, mix-take, firstStates, clears-firstStates, CutOpening, in-first, in-second, openedStates-cut, keptFrom-cut}
+use Rattle.theorem_writing.proofs.FitRecords.{bytes-of}
 use Rattle.theorem_power_cut.specs.PowerCut.{OpeningCut}
 use Rattle.theorem_power_cut.proofs.Found.{map-size}
 use Rattle.theorem_power_cut.proofs.MapUnits.{splice, length-splice, reached}
 use Rattle.theorem_power_cut.proofs.OpenedPage.{header-size, states-size, same-size, map-first, map-second, first-size, before, first, run-first, between, second, run-opening}
-use Rattle.theorem_power_cut.proofs.Laid.{bytes-of}
 use Rattle.theorem_power_cut.proofs.AtHand.{field-front}
 use Rattle.theorem_power_cut.proofs.Headers.{HeaderOpens, opens-facts, opens-of, header-opens, image-opens}
 

@@ -1,4 +1,4 @@
--- A page that stands: header, map, entries in use, blank entries behind. Opening leaves it so, and changes nothing of it.
+-- A page that stands: header, map, entries in use, blank entries after. Opening leaves it so, and changes nothing of it.
 --
 -- In order: the page; what its parts are; what the reading keeps of it; that opening changes nothing of it.
 use mathlib.Core.Path.{_≡_, refl, sym, ap, ap₂, _∙_, subst}
@@ -27,7 +27,7 @@ use Rattle.theorem_power_cut.proofs.Chunks.{chunks-append}
 
 -- ---- the page
 
--- a closed front of entries in use, and behind it entries that are Empty and 0xFF
+-- a closed front of entries in use, and after it entries that are Empty and 0xFF
 pub record Standing (image : List ℕ) (items : List Item) : Type 0 where
   pub header : List ℕ
   pub map : List ℕ

@@ -1,6 +1,6 @@
--- A closed front of a page: whole items and Erased entries, and nothing else. The reading keeps it as it is, and reads what lies behind it by itself.
+-- A closed front of a page: whole items and Erased entries, and nothing else. The reading keeps it as it is, and reads what lies after it by itself.
 --
--- In order: the front; its items are good, whatever lies behind; fronts joined; walk, items and opened states over a front and a rest.
+-- In order: the front; its items are good, whatever lies after; fronts joined; walk, items and opened states over a front and a rest.
 use mathlib.Core.Path.{_≡_, refl, sym, ap, _∙_}
 use mathlib.Core.Bool.{true}
 use mathlib.Core.List.{List, [], _∷_, _++_, append-nil}
@@ -46,7 +46,7 @@ usable-closed rest (closed-covered entry c) = usable-closed rest c
 pub good-closed : {k : ℕ} {entry : List ℕ} {front : States} {bytes : Entries} → Whole entry k bytes → Closed k front bytes → Good entry k front bytes
 good-closed {front = front} w c = record { whole = w; clear = rw append-nil at (usable-closed [] c) }
 
--- whatever lies behind
+-- whatever lies after
 pub good-closed-append : {k : ℕ} {entry : List ℕ} {front : States} {bytes : Entries} (rest : States) (others : Entries)
     → Whole entry k bytes → Closed k front bytes → Good entry k (front ++ rest) (bytes ++ others)
 good-closed-append rest others w c = record { whole = whole-append others w; clear = usable-closed rest c }

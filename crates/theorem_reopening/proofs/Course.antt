@@ -36,7 +36,7 @@ pub data Course : ℕ → EntryMapState → States → Entries → Type 0 where
       → Course (suc k) Erased (s ∷ states) (entry ∷ entries)
   keepsBehind : {k : ℕ} {states : States} {entries : Entries} (s : EntryMapState) (entry : List ℕ) → isUsable s ≡ true → Course k Written states entries
       → Course (suc k) Written (s ∷ states) (entry ∷ entries)
-  -- behind the last covered entry the mark is of no use
+  -- after the last covered entry the mark is of no use
   goesOn : {states : States} {entries : Entries} → Course zero Erased states entries → Course zero Written states entries
 
 -- the mark of what a kept item covers, and of what a refused one does

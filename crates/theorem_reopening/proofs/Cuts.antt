@@ -1,4 +1,4 @@
--- A power cut while an item is written behind a closed front: as long as all marks behind the front are Empty the item is absent, and once its
+-- A power cut while an item is written after a closed front: as long as all marks after the front are Empty the item is absent, and once its
 -- header is marked it is there, whole.
 --
 -- In order: Empty entries with any bytes, and what opening leaves of blank ones; an item whose covered entries are marked in part; the cut.
@@ -72,14 +72,14 @@ module _ {entry : List ℕ} {mixed : States} {new : Entries} (m : Marking entry 
   good-mixed : Good entry (length new) (mixed ++ rest) (new ++ others)
   good-mixed = record { whole = whole-append others (m .whole); clear = rw (← m .covers) (usable-mixed mixed rest (m .started)) }
 
-  -- it is kept, and what lies behind is read by itself
+  -- it is kept, and what lies after is read by itself
   pub kept-marking : (i : ℕ)
       → keptFrom zero i (Written ∷ mixed ++ rest) (entry ∷ new ++ others) ≡ item i (entry ∷ new) ∷ keptFrom zero (suc i + length new) rest others
   kept-marking i =
       rw (verdict-keptItem good-mixed, take-at new others (length new) refl)
       (ap (λ (items : List Item). item i (entry ∷ new) ∷ items) (keptFrom-mixed (suc i) mixed rest new others (m .covers)))
 
--- ---- the cut, behind a closed front
+-- ---- the cut, after a closed front
 
 module _ {front : States} {bytes : Entries} (c : Closed zero front bytes) where
   -- before the first mark: nothing new is kept, whatever bytes are in
@@ -87,7 +87,7 @@ module _ {front : States} {bytes : Entries} (c : Closed zero front bytes) where
   kept-unmarked n any =
       rw (keptFrom-closed zero (replicate n Empty) any c, keptFrom-empties n (zero + length front) any) (append-nil (keptFrom zero zero front bytes))
 
-  -- opening leaves a page that is all free behind the front as it is
+  -- opening leaves a page that is all free after the front as it is
   pub openedStates-unmarked-blank : (blanks : Entries) → every allOnes blanks ≡ true
       → openedStates (front ++ replicate (length blanks) Empty) (bytes ++ blanks) ≡ front ++ replicate (length blanks) Empty
   openedStates-unmarked-blank blanks e = rw (openedStates-closed (replicate (length blanks) Empty) blanks c, openedStates-blanks blanks e)

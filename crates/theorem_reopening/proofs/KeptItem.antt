@@ -21,7 +21,7 @@ use Rattle.theorem_reopening.proofs.OpenedFront.{opened, kept-opened}
 
 -- ---- the entries that a header covers
 
--- k covered entries, and the closed front behind them
+-- k covered entries, and the closed front after them
 record Behind (k : ℕ) (front : States) (bytes : Entries) : Type 0 where
   rest : States
   split : front ≡ replicate k Written ++ rest
@@ -44,7 +44,7 @@ behind (closed-covered {k} entry c) =
 
 -- ---- the place of a kept item
 
--- what lies before the item and behind it, with what is kept there
+-- what lies before the item and after it, with what is kept there
 pub record Place (k i j : ℕ) (group : Entries) (before after : List Item) (front : States) (bytes : Entries) : Type 0 where
   pub ahead : States
   pub rest : States
@@ -118,7 +118,7 @@ here {k} {entry} {states} {entries} i w c =
       kept-rest = rw (long, add-suc, ← suc-add i k) (sym (b .kept (suc i)));
     }
 
--- the item lies behind the first entry's
+-- the item lies after the first entry's
 later : {k i j : ℕ} {entry : List ℕ} {group : Entries} {before after : List Item} {states : States} {entries : Entries} → Whole entry k entries
     → Place k (suc i) j group before after states entries
     → Place zero i j group (item i (entry ∷ take k entries) ∷ before) after (Written ∷ states) (entry ∷ entries)
@@ -246,7 +246,7 @@ indices-keptFrom zero i (s ∷ states) (entry ∷ entries) =
     indices-withKept verdict i entry entries (omega arith) (omega arith) (indices-wider (omega arith) (omega arith) rest)
 indices-keptFrom (suc k) i (s ∷ states) (entry ∷ entries) = indices-wider (omega arith) (omega arith) (indices-keptFrom k (suc i) states entries)
 
--- the items before one have smaller indices, and those behind it greater ones
+-- the items before one have smaller indices, and those after it greater ones
 pub indices-before : {j : ℕ} {group : Entries} {before after : List Item} {front : States} {bytes : Entries} → Place zero zero j group before after front bytes
     → Indices zero j before
 indices-before p = rw (← p .kept-ahead, p .index) (indices-keptFrom zero zero (p .ahead) (p .bytes-ahead))
@@ -257,7 +257,7 @@ indices-after {j} {group} p = rw (← p .kept-rest) (indices-keptFrom zero (j + 
 
 -- ---- kept items of any page
 
--- an item of a list, and those before it and behind it
+-- an item of a list, and those before it and after it
 pub member-split : {x : Item} {items : List Item} → List·Memᴰ x items → (before : List Item) × (after : List Item) × (items ≡ before ++ (x ∷ after))
 member-split (List·Memᴰ·head {xs = xs} e) = ([], xs, ap (λ (y : Item). y ∷ xs) (sym e))
 member-split (List·Memᴰ·tail {x = y} m) =

@@ -1,4 +1,4 @@
--- What opening leaves: a closed front, and behind it the free tail.
+-- What opening leaves: a closed front, and after it the free tail.
 --
 -- In order: front and tail; opening leaves them; the free tail is Empty and all 0xFF; an opened page; its counts.
 use mathlib.Core.Path.{_≡_, refl, sym, ap, ap₂, _∙_}

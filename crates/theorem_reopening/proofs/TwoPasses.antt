@@ -209,31 +209,25 @@ both-upperCleared Written = refl
 both-upperCleared Erased = refl
 both-upperCleared Illegal = refl
 
-clears-first : {k : ℕ} {mark : EntryMapState} {old first new : States} {entries : Entries} → Passes k mark old first new entries → StatesClear old first
-clears-first ends = states-nil
-clears-first (staysEmpty entry p) = states-cons refl (clears-first p)
-clears-first (shutsEmpty entry e p) = states-cons refl (clears-first p)
-clears-first (staysErased entry p) = states-cons refl (clears-first p)
-clears-first (shutsIllegal entry p) = states-cons refl (clears-first p)
-clears-first (refusesEntry entry e p) = states-cons refl (clears-first p)
-clears-first (refusesItem entry s p) = states-cons refl (clears-first p)
-clears-first (keepsItem entry g p) = states-cons refl (clears-first p)
-clears-first (erasesBehind s entry p) = states-cons (both-upperCleared s) (clears-first p)
-clears-first (keepsBehind s entry u p) = states-cons (both-self s) (clears-first p)
-clears-first (goesOn p) = clears-first p
+-- of the states before to those after the first pass, and of these to those after the second
+abbrev Clears : States → States → States → Type 0
+Clears old first new = StatesClear old first × StatesClear first new
 
-clears-second : {k : ℕ} {mark : EntryMapState} {old first new : States} {entries : Entries} → Passes k mark old first new entries → StatesClear first new
-clears-second ends = states-nil
-clears-second (staysEmpty entry p) = states-cons refl (clears-second p)
-clears-second (shutsEmpty entry e p) = states-cons refl (clears-second p)
-clears-second (staysErased entry p) = states-cons refl (clears-second p)
-clears-second (shutsIllegal entry p) = states-cons refl (clears-second p)
-clears-second (refusesEntry entry e p) = states-cons refl (clears-second p)
-clears-second (refusesItem entry s p) = states-cons refl (clears-second p)
-clears-second (keepsItem entry g p) = states-cons refl (clears-second p)
-clears-second (erasesBehind s entry p) = states-cons (both-erased (upperCleared s)) (clears-second p)
-clears-second (keepsBehind s entry u p) = states-cons (both-written s u) (clears-second p)
-clears-second (goesOn p) = clears-second p
+clears-cons : {s t u : EntryMapState} {old first new : States} → both s t ≡ t → both t u ≡ u → Clears old first new → Clears (s ∷ old) (t ∷ first) (u ∷ new)
+clears-cons e f c = (states-cons e (c .0), states-cons f (c .1))
+
+clears : {k : ℕ} {mark : EntryMapState} {old first new : States} {entries : Entries} → Passes k mark old first new entries → Clears old first new
+clears ends = (states-nil, states-nil)
+clears (staysEmpty entry p) = clears-cons refl refl (clears p)
+clears (shutsEmpty entry e p) = clears-cons refl refl (clears p)
+clears (staysErased entry p) = clears-cons refl refl (clears p)
+clears (shutsIllegal entry p) = clears-cons refl refl (clears p)
+clears (refusesEntry entry e p) = clears-cons refl refl (clears p)
+clears (refusesItem entry s p) = clears-cons refl refl (clears p)
+clears (keepsItem entry g p) = clears-cons refl refl (clears p)
+clears (erasesBehind s entry p) = clears-cons (both-upperCleared s) (both-erased (upperCleared s)) (clears p)
+clears (keepsBehind s entry u p) = clears-cons (both-self s) (both-written s u) (clears p)
+clears (goesOn p) = clears p
 
 -- ---- the cut anywhere
 
@@ -243,12 +237,12 @@ firstStates states entries = firstPass states (openedStates states entries) (ref
 
 pub clears-firstStates : (states : States) (entries : Entries) → length states ≡ length entries → StatesClear states (firstStates states entries)
 unfolding openedStates
-clears-firstStates states entries l = clears-first (passes (course states entries l))
+clears-firstStates states entries l = clears (passes (course states entries l)) .0
 
 pub clears-secondPass : (states : States) (entries : Entries) → length states ≡ length entries
     → StatesClear (firstStates states entries) (openedStates states entries)
 unfolding openedStates
-clears-secondPass states entries l = clears-second (passes (course states entries l))
+clears-secondPass states entries l = clears (passes (course states entries l)) .1
 
 -- a page that opening leaves as it is, the first pass leaves too
 pub firstPass-same : (states : States) (headers : List Bool) → firstPass states states headers ≡ states

@@ -1,6 +1,6 @@
 -- The starred edges (01, 'Both sides of each edge'): one table, in 01's order, of what the definitions give and what 01 says.
 --
--- In order: the pages and requests of the table; the table; the statement. The edges without a star are run (crate `edges`).
+-- In order: the pages and requests of the table; the table; the statement. The edges without a star are run (crates test_map, test_load, test_writing).
 -- A mark's byte is as 01 has it where the other marks in it, and the four spare bits, are still 1.
 use mathlib.Core.Path.{_≡_}
 use mathlib.Core.Bool.{Bool, true, cond}

@@ -83,19 +83,20 @@ marked-full-fit page h =
 
 -- ---- a record with an item
 
-map-bytes : (map : List ℕ) → every (λ (byte : ℕ). ltb byte 256) map ≡ true → Bytes map
-map-bytes [] h = bytes-nil
-map-bytes (byte ∷ map) h =
-    let both = and-eq-true-iff (ltb byte 256) (every (λ (byte : ℕ). ltb byte 256) map) .0 h in
-    bytes-cons (ltb-true byte 256 (both .0)) (map-bytes map (both .1))
+-- bytes that pass the test of each
+pub bytes-of : (bytes : List ℕ) → every (λ (byte : ℕ). ltb byte 256) bytes ≡ true → Bytes bytes
+bytes-of [] h = bytes-nil
+bytes-of (byte ∷ bytes) h =
+    let both = and-eq-true-iff (ltb byte 256) (every (λ (byte : ℕ). ltb byte 256) bytes) .0 h in
+    bytes-cons (ltb-true byte 256 (both .0)) (bytes-of bytes (both .1))
 
--- one more place behind those in use
+-- one more place after those in use
 listed-more : (list : List Listed) (len : ℕ) (place : Listed) → len < length list → every placeFits (take len list) ≡ true → placeFits place ≡ true
     → every placeFits (take (len + 1) (set list len place)) ≡ true
 listed-more list len place h e p =
     rw (add-one len, take-suc-set list len place h, every-append placeFits (take len list) (place ∷ []), e, p)
 
--- and those behind it are still zero
+-- and those after it are still zero
 zero-behind : (list : List Listed) (len : ℕ) (place : Listed) → len < length list → every placeZero (drop len list) ≡ true
     → every placeZero (drop (len + 1) (set list len place)) ≡ true
 zero-behind list len place h e =
@@ -115,7 +116,7 @@ module _ (page : ThinPage) (span namespace hash : ℕ) (code : AsInCode page) (f
 
   item-written : countIn Written (statesOf (markRange Written (nextFree page) span (page .map))) ≤ page .used + span
   item-written =
-      rw (statesOf-markRange Written (nextFree page) span (map-bytes (page .map) (code .1)))
+      rw (statesOf-markRange Written (nextFree page) span (bytes-of (page .map) (code .1)))
       (omega (arith, countIn-marked (nextFree page) span (statesOf (page .map)), f .written-fits))
 
   item-len : (plain : Bool) → cond plain (page .len) (page .len + 1) ≤ page .used + span + page .erased
@@ -182,7 +183,7 @@ module _ (page : ThinPage) (index span : ℕ) (code : AsInCode page) (f : Fit pa
 
   fewer : countIn Written (statesOf (markRange Erased index span (page .map))) + span ≡ countIn Written (statesOf (page .map))
   fewer =
-      rw (statesOf-markRange Erased index span (map-bytes (page .map) (code .1)))
+      rw (statesOf-markRange Erased index span (bytes-of (page .map) (code .1)))
       (countIn-erased index span (statesOf (page .map)) (omega (arith, length-statesOf (page .map) (code .0))) all)
 
   erased-len : length kept ≤ page .used + page .erased

@@ -83,7 +83,7 @@ rises-lower lower from to (unit address bytes ∷ plan) l h =
     let t = rises-tests from to address bytes plan h in
     rises-cons lower to address bytes plan (omega arith) (t .upper) (t .four) (t .rest)
 
--- one write, and another behind it
+-- one write, and another after it
 rises-append : (from mid to : ℕ) (us vs : List Unit4) → from ≤ mid → mid ≤ to → rises from mid us ≡ true → rises mid to vs ≡ true
     → rises from to (us ++ vs) ≡ true
 rises-append from mid to [] vs l u a b = rises-lower from mid to vs l b

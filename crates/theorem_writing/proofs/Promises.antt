@@ -116,7 +116,7 @@ refusal-other ((true, answer) ∷ checks) h =
 refusal-other ((false, answer) ∷ checks) h = refusal-other checks (and-eq-true-iff (not (isPageFull answer)) (every answersOther checks) .0 h .1)
 
 module _ (earlier behind : List Check) (others : every answersOther earlier ≡ true) (stopped : Bool) (page new : ThinPage) where
-  -- PageFull comes of the checks behind
+  -- PageFull comes of the later checks
   full-of-behind : outcome (earlier ++ behind) stopped page new .answer ≡ PageFull → (accepted earlier ≡ true) × (refusal behind ≡ PageFull)
   full-of-behind h = by-tests (accepted (earlier ++ behind)) stopped (accepted earlier) refl refl refl h
     where

@@ -206,7 +206,7 @@ pub record Write : Type 0 where
   pub to : ℕ
   pub plan : List Unit4
 
--- units of four bytes, each at or behind the end of the one before, from a place up to another
+-- units of four bytes, each at or after the end of the one before, from a place up to another
 unfoldable pub rises : ℕ → ℕ → List Unit4 → Bool
 rises from to [] = true
 rises from to (unit address bytes ∷ plan) =

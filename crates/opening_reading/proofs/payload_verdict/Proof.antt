@@ -23,7 +23,7 @@ sized c =
     let size = c .before .size-of .ensures .0 in
     le-ltb (entrySize * covered entry) (sizeOf entry) (omega arith)
 
--- the payload's CRC is that of one run of bytes behind the header
+-- the payload's CRC is that of one run of bytes after the header
 payload-crc : (c : tie.After-crc32)
     → let args = c .before .before .before .before .before .before .args in
     crc32 crcStart (take (sizeOf (args .t4)) (joined (take (covered (args .t4)) (drop (args .index + 1) (entriesOf (args .image .now))))))

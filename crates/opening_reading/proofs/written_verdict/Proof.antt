@@ -18,7 +18,7 @@ use Rattle.sector.proofs.Laws.{length-entriesOf}
 use Rattle.opening_reading.proofs.written_verdict.Statement.{statement}
 use Rattle.opening_reading.proofs.written_verdict.Tie as tie
 
--- the entries behind this one
+-- the entries after this one
 entries-left : (image : List ℕ) (index : ℕ) → length (drop (index + 1) (entriesOf image)) ≡ 125 - index
 entries-left image index =
     let all = length-entriesOf image in

@@ -1,4 +1,4 @@
--- `kept::with_listed` meets its contract: the place behind the last gets the item's hash and index.
+-- `kept::with_listed` meets its contract: the place after the last gets the item's hash and index.
 use borrow.Author.Needs.{needs}
 use borrow.Author.Tests.{eq-eqb, ne-eqb}
 use Rattle.sector.specs.Layout.{namespaceOf}

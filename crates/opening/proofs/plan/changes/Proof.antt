@@ -1,14 +1,14 @@
 -- `plan::changes` meets its contract: a map is its states packed, and each call gives the states of the definition that it is named after.
 use mathlib.Core.Path.{_≡_, ap₂, _∙_}
 use mathlib.Core.List.{List}
-use Prim.Native.Nat.{ℕ}
+use Prim.Native.Nat.{ℕ, zero}
 use borrow.Author.Needs.{needs}
 use Rattle.sector.specs.Layout.{mapOf, entriesOf}
 use Rattle.sector.specs.Map.{statesOf}
 use Rattle.opening_reading.specs.Reading.{openedStates}
-use Rattle.opening_marks.specs.Marks.{HasStates}
+use Rattle.opening_marks.specs.Marks.{HasStates, firstPass}
 use Rattle.opening.specs.declared.Listing.{Listing}
-use Rattle.opening.specs.Opening.{keptItems, listedItems, openedMap, firstMap, openedPage}
+use Rattle.opening.specs.Opening.{keptItems, listedItems, openedMap, refusedHeaders, firstMap, openedPage}
 use Rattle.opening.specs.Steps.{listingOf, headerRecord}
 use Rattle.opening_marks.proofs.Arrays.{bytes-of-array}
 use Rattle.opening_marks.proofs.Passes.{has-states}
@@ -34,14 +34,20 @@ opened-map : (c : tie.After-shut-before-tail)
 unfolding openedMap
 opened-map c = has-states (bytes-of-array (c .shut-before-tail .result) _ (c .shut-before-tail .ok .1 .1)) (opened c)
 
+-- and those after the first pass
+passed : (c : tie.After-first-pass)
+    → let image = c .before .before .before .before .before .before .before .args .image .now in
+    let states = statesOf (mapOf image) in
+    HasStates (mapOf image) (firstPass states (openedStates states (entriesOf image)) (refusedHeaders zero states (entriesOf image))) (c .first-pass .result)
+passed c =
+    let shut = c .before .before in
+    let walked = shut .before .before in
+    rw (opened shut .states-are, walked .walk .ensures .heads, map-read (walked .before)) at (c .first-pass .ensures)
+
 first-map : (c : tie.After-first-pass)
     → c .first-pass .result ≡ firstMap (c .before .before .before .before .before .before .before .args .image .now)
 unfolding firstMap
-first-map c =
-    let shut = c .before .before in
-    let walked = shut .before .before in
-    has-states (bytes-of-array (c .first-pass .result) _ (c .first-pass .ok .1 .1))
-    (rw (opened shut .states-are, walked .walk .ensures .heads, map-read (walked .before)) at (c .first-pass .ensures))
+first-map c = has-states (bytes-of-array (c .first-pass .result) _ (c .first-pass .ok .1 .1)) (passed c)
 
 listed : (c : tie.After-walk)
     → c .walk .result .listing ≡ listingOf (listedItems (keptItems (c .before .before .before .args .image .now)))
@@ -51,13 +57,13 @@ listed c = c .walk .ensures .listing ∙ rw (map-read (c .before))
 returns : tie.Need-returns
 unfolding openedPage headerRecord
 returns c =
-    let passed = c .before .before in
-    let shut = passed .before .before in
+    let first = c .before .before in
+    let shut = first .before .before in
     let walked = shut .before .before in
     let image = walked .before .before .before .args .image .now in
     record {
       map = map-read (walked .before);
-      first = first-map passed;
+      first = first-map first;
       page = c .header-record .ensures ∙ ap₂ (λ (map : List ℕ) (listing : Listing). headerRecord image map listing) (opened-map shut) (listed walked);
     }
 
