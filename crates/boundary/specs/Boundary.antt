@@ -1,4 +1,4 @@
--- What a C function returns and leaves in its buffers: the public call behind the encoding of Encoding.
+-- What a C function returns and leaves in its buffers: the public call's results, encoded as Encoding says.
 --
 -- In order: sizes; what a call with an answer leaves, and each such call; what a writing call leaves, and each such call.
 -- BadCall is for a buffer of fixed size that has another length. It is checked before everything else, and changes nothing.

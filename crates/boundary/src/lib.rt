@@ -7,6 +7,11 @@ pub mod reading;
 pub mod sums;
 pub mod writing;
 
+use sector::ENTRIES_PER_PAGE;
+use sector::ENTRY_SIZE;
+use sector::ITEMS_OFFSET;
+use sector::MAP_OFFSET;
+
 // A buffer of fixed size has another length.
 pub const BAD_CALL: u32 = 255;
 
@@ -18,11 +23,10 @@ pub const KEY_SIZE: usize = 16;
 
 pub const SINGLE_SIZE: usize = 8;
 
-pub const MAP_SIZE: usize = 32;
+// Of the map of states in a record, two bits an entry.
+pub const MAP_SIZE: usize = ITEMS_OFFSET - MAP_OFFSET;
 
-pub const ENTRIES_SIZE: usize = 4032;
-
-pub const ITEM_SIZE: usize = 32;
+pub const ENTRIES_SIZE: usize = ENTRIES_PER_PAGE * ENTRY_SIZE;
 
 // Of a call that has no item.
 pub const NO_ITEM: [u8; 32] = [0; 32];

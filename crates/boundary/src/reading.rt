@@ -53,7 +53,7 @@ pub extern "C" fn nvs_raw_read(image: &[u8], index: u64, buffer: &mut [u8]) -> u
     boundary_results::give(buffer, answer, 0, item)
 }
 
-// The data behind an item's header (`load_referenced_data_into`), and its size.
+// The data after an item's header (`load_referenced_data_into`), and its size.
 #[no_mangle]
 pub extern "C" fn nvs_load_data(
     image: &[u8],

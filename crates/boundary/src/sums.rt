@@ -7,8 +7,8 @@ ghost use Rattle.sector.specs.Item.{itemCrc, hashOf};
 ghost use Rattle.sector.specs.Types.{typeByte};
 ghost use Rattle.boundary_encoding.specs.Encoding.{wrongSize};
 ghost use Rattle.boundary.specs.Boundary.{keySize, itemSize};
-use crate::ITEM_SIZE;
 use crate::KEY_SIZE;
+use sector::ENTRY_SIZE;
 use sector::bytes;
 
 // The CRC of the data from a start value.
@@ -24,7 +24,7 @@ pub extern "C" fn nvs_crc32(start: u32, bytes: &[u8]) -> u32
 pub extern "C" fn nvs_item_crc(bytes: &[u8]) -> u32
     ensures { λ r. ⌜ r ≡ cond (wrongSize itemSize (now (bytes .entry))) 0 (itemCrc (now (bytes .entry))) ⌝ }
 {
-    if bytes.len() != ITEM_SIZE {
+    if bytes.len() != ENTRY_SIZE {
         return 0;
     }
     sector_item::item_crc(bytes::array_32(bytes))
@@ -35,7 +35,7 @@ pub extern "C" fn nvs_item_crc(bytes: &[u8]) -> u32
 pub extern "C" fn nvs_header_crc(bytes: &[u8]) -> u32
     ensures { λ r. ⌜ r ≡ cond (wrongSize itemSize (now (bytes .entry))) 0 (headerCrc (now (bytes .entry))) ⌝ }
 {
-    if bytes.len() != ITEM_SIZE {
+    if bytes.len() != ENTRY_SIZE {
         return 0;
     }
     sector_header::header_crc(bytes::array_32(bytes))

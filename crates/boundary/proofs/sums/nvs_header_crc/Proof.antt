@@ -1,20 +1,13 @@
 -- `nvs_header_crc` meets its contract: 0 by the test of the size, else the call on the same bytes.
-use mathlib.Core.Path.{ap, _∙_}
 use borrow.Author.Needs.{needs}
-use Rattle.sector.specs.Header.{headerCrc}
 use Rattle.boundary.proofs.Laws.{wrong-size, right-size}
 use Rattle.boundary.proofs.sums.nvs_header_crc.Statement.{statement}
 use Rattle.boundary.proofs.sums.nvs_header_crc.Tie as tie
 
-returns : tie.Need-returns
-returns c = rw (wrong-size 32 (c .before .before .args .bytes .now) (c .if1 .taken))
-
-returns-2 : tie.Need-returns-2
-returns-2 c =
-    let array = c .before in
-    let else = array .before in
-    rw (right-size 32 (else .before .before .args .bytes .now) (else .if1 .left))
-    (c .header-crc .ensures ∙ ap headerCrc (array .array-32 .ensures))
-
 pub nvs-header-crc-spec : {M : Type 1} → statement M
-nvs-header-crc-spec = tie.close (tie.spec returns (λ c κs. search needs) (λ c κs. search needs) returns-2)
+nvs-header-crc-spec =
+    tie.close
+    (tie.spec
+    (λ c. rw (wrong-size 32 _ (c .if1 .taken)))
+    (λ c κs. search needs) (λ c κs. search needs)
+    (λ c. rw (right-size 32 _ (c .before .before .if1 .left)) (cc)))
