@@ -1,4 +1,4 @@
--- Laws of the buffers: bytes laid behind others, the places of a list, and that a record and its bytes give each other back.
+-- Laws of the buffers: bytes laid after others, lists made from the front, states, and the places of a list.
 use mathlib.Core.Path.{_≡_, refl, sym, ap, ap₂, _∙_}
 use mathlib.Core.List.{List, [], _∷_, _++_, append-nil, append-assoc}
 use Prim.Native.Nat.{ℕ, zero, suc, _+_, _*_, _<_, _≤_}
@@ -21,14 +21,14 @@ over-whole out bytes h =
     let all : length out ≤ 0 + length bytes = omega (arith, h) in
     rw (drop-of-length-le out all, append-nil bytes)
 
--- bytes laid behind those that are laid already
+-- bytes laid after those that are laid already
 pub over-next : (base front bytes : List ℕ) (n : ℕ) {out : List ℕ} → length front ≡ n → out ≡ front ++ drop n base
     → over out n bytes ≡ (front ++ bytes) ++ drop (n + length bytes) base
 over-next base front bytes n {out} e h =
     let rest = drop n base in
-    let behind : drop (n + length bytes) (front ++ rest) ≡ drop (n + length bytes) base =
+    let rest-of : drop (n + length bytes) (front ++ rest) ≡ drop (n + length bytes) base =
     ap (λ (k : ℕ). drop (k + length bytes) (front ++ rest)) (sym e) ∙ drop-append-add front rest (length bytes) ∙ drop-drop (length bytes) n base in
-    rw (h, take-at front rest n e, behind, append-assoc front bytes (drop (n + length bytes) base))
+    rw (h, take-at front rest n e, rest-of, append-assoc front bytes (drop (n + length bytes) base))
 
 -- the same, by what is known of the buffer before and after
 pub over-after : (base front bytes : List ℕ) (n m : ℕ) {out after : List ℕ} → length front ≡ n → length bytes ≡ m → out ≡ front ++ drop n base
@@ -42,7 +42,7 @@ pub over-last : (base front bytes : List ℕ) (n : ℕ) {out after : List ℕ} �
 over-last base front bytes n e g h p =
     p ∙ over-next base front bytes n e h ∙ ap (λ (rest : List ℕ). (front ++ bytes) ++ rest) (drop-of-length-le base g) ∙ append-nil (front ++ bytes)
 
--- four words laid one behind the other, up to the buffer's end
+-- four words laid one after the other, up to the buffer's end
 pub words-laid : (base a b c d : List ℕ) {o₁ o₂ o₃ o₄ : List ℕ} → length base ≡ 57 → length a ≡ 4 → length b ≡ 4 → length c ≡ 4 → length d ≡ 4
     → o₁ ≡ over base 41 a → o₂ ≡ over o₁ 45 b → o₃ ≡ over o₂ 49 c → o₄ ≡ over o₃ 53 d → o₄ ≡ take 41 base ++ (a ++ (b ++ (c ++ d)))
 words-laid base a b c d whole la lb lc ld p₁ p₂ p₃ p₄ =
@@ -57,7 +57,7 @@ words-laid base a b c d whole la lb lc ld p₁ p₂ p₃ p₄ =
     (over-after base (take 41 base) a 41 4 front la (sym (take-append-drop 41 base)) p₁) p₂) p₃) p₄
     ∙ rw (append-assoc ((take 41 base ++ a) ++ b) c d, append-assoc (take 41 base ++ a) b (c ++ d), append-assoc (take 41 base) a (b ++ (c ++ d)))
 
--- three parts laid one behind the other from the start on
+-- three parts laid one after the other from the start on
 pub parts-laid : (base a b c : List ℕ) (k m n : ℕ) {o₁ o₂ o₃ : List ℕ} → length a ≡ k → length b ≡ m → length c ≡ n
     → o₁ ≡ over base 0 a → o₂ ≡ over o₁ k b → o₃ ≡ over o₂ (k + m) c → take (k + m + n) o₃ ≡ a ++ (b ++ c)
 parts-laid base a b c k m n la lb lc p₁ p₂ p₃ =
@@ -117,7 +117,7 @@ length-placesBytes (place ∷ places) =
     let rest = length-placesBytes places in
     omega (arith, rest, length-append (placeBytes place) (placesBytes places))
 
--- the bytes of the first k places, behind the first 45 bytes of a buffer
+-- the bytes of the first k places, after the first 45 bytes of a buffer
 abbrev pub placesFront : List ℕ → List Listed → ℕ → List ℕ
 placesFront base places k = take 45 base ++ placesBytes (take k places)
 
@@ -140,7 +140,7 @@ module _ (base : List ℕ) (places : List Listed) (k : ℕ) (whole : length base
       → after ≡ placesFront base places (k + 1) ++ drop (45 + 5 * (k + 1)) base
   placesFront-next {out} {five} {after} h e p q =
       let long : length five ≡ 5 = ap length p in
-      let behind : 45 + 5 * k + length five ≡ 45 + 5 * (k + 1) = omega (arith, long) in
+      let end : 45 + 5 * k + length five ≡ 45 + 5 * (k + 1) = omega (arith, long) in
       let front : placesFront base places k ++ five ≡ placesFront base places (k + 1) =
       append-assoc (take 45 base) (placesBytes (take k places)) five
       ∙ ap (λ (bytes : List ℕ). take 45 base ++ bytes)
@@ -148,7 +148,7 @@ module _ (base : List ℕ) (places : List Listed) (k : ℕ) (whole : length base
       ∙ sym (placesBytes-next places k (omega (arith, all)))
       ∙ ap (λ (n : ℕ). placesBytes (take n places)) (sym (add-one k))) in
       q ∙ over-next base (placesFront base places k) five (45 + 5 * k) (length-placesFront (omega arith)) e
-      ∙ ap₂ (λ (xs : List ℕ) (n : ℕ). xs ++ drop n base) front behind
+      ∙ ap₂ (λ (xs : List ℕ) (n : ℕ). xs ++ drop n base) front end
 
   -- all of them
   pub placesFront-all : {out : List ℕ} → k ≡ 126 → out ≡ placesFront base places k ++ drop (45 + 5 * k) base

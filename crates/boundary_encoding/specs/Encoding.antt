@@ -2,7 +2,7 @@
 --
 -- In order: states; places of the list; a record's bytes; the record that bytes hold; an answer's bytes; when a buffer has a wrong size.
 -- A byte over 5 is no state. The record that is read then is one that is not fit to use, so that BadRecord comes in 01's place.
--- Not here: that a record and its bytes give each other back, and that no state is unfit (`round_trip`).
+-- Not here: that a record and its bytes give each other back, and that no state is unfit (`theorem_round_trip`).
 use mathlib.Core.Bool.{Bool, not, cond}
 use mathlib.Core.List.{List, [], _∷_, _++_}
 use Prim.Native.Nat.{ℕ, zero, suc}

@@ -3,16 +3,9 @@ use borrow.Author.Needs.{needs}
 use Rattle.boundary_encoding.proofs.place_bytes.Statement.{statement}
 use Rattle.boundary_encoding.proofs.place_bytes.Tie as tie
 
-returns : tie.Need-returns
-returns c = rw (c .little-endian .ensures)
-
 pub place-bytes-spec : {M : Type 1} → statement M
 place-bytes-spec =
     tie.close
     (tie.spec
-    (λ c κs. search needs)
-    (λ c. search needs)
-    (λ c. search needs)
-    (λ c. search needs)
-    (λ c. search needs)
-    returns)
+    (λ c κs. search needs) (λ c. search needs) (λ c. search needs) (λ c. search needs) (λ c. search needs)
+    (λ c. rw (c .little-endian .ensures)))

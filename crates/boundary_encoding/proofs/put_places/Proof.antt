@@ -1,4 +1,4 @@
--- `put_places` meets its contract: after k turns the bytes of the first k places lie behind the rest of the record.
+-- `put_places` meets its contract: after k turns the bytes of the first k places lie after the rest of the record.
 use mathlib.Core.Path.{_≡_}
 use mathlib.Core.List.{_++_}
 use Prim.Native.Nat.{_+_, _-_, _*_, _≤_}
@@ -14,9 +14,6 @@ Inv-loop out₀ list k₀ out k = (k ≤ 126) × (length out ≡ 675) × (out �
 
 abbrev μ-loop : tie.MeasureT-loop
 μ-loop out₀ list k₀ out k = 126 - k
-
-loop-holds : tie.Need-loop-holds Inv-loop μ-loop
-loop-holds c = (omega arith, c .before .pre, placesFront-none (c .before .args .out .now) (c .before .args .t2) 0 (c .before .pre) (omega arith))
 
 loop-again : tie.Need-loop-again Inv-loop μ-loop
 loop-again c =
@@ -40,16 +37,9 @@ put-places-spec =
     (tie.spec
     Inv-loop
     μ-loop
-    loop-holds
-    (λ c. search needs)
-    (λ c. search needs)
-    (λ c κs. search needs)
-    (λ c. search needs)
-    (λ c. search needs)
-    (λ c. search needs)
-    (λ c κs. search needs)
-    (λ c. search needs)
-    (λ c. search needs)
+    (λ c. (omega arith, c .before .pre, placesFront-none (c .before .args .out .now) (c .before .args .t2) 0 (c .before .pre) (omega arith)))
+    (λ c. search needs) (λ c. search needs) (λ c κs. search needs) (λ c. search needs) (λ c. search needs)
+    (λ c. search needs) (λ c κs. search needs) (λ c. search needs) (λ c. search needs)
     loop-again
     (λ c. search needs)
     returns)
