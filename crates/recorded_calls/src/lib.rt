@@ -18,85 +18,134 @@ use recorded_file::buffers::SOURCE;
 use recorded_file::frame::Status;
 use recorded_file::request;
 use recorded_file::request::Request;
+use sector::ITEMS_OFFSET;
 use sector::bytes;
 
+// ---- the numbers of the calls (compare/RECORDED.md, 'The calls')
+
+const CRC32: u8 = 0;
+
+const ITEM_CRC: u8 = 1;
+
+const HEADER_CRC: u8 = 2;
+
+const HASH: u8 = 3;
+
+const TYPE_BYTE: u8 = 4;
+
+const WIDTH: u8 = 5;
+
+const LOAD: u8 = 6;
+
+const RAW_READ: u8 = 7;
+
+const LOAD_DATA: u8 = 8;
+
+const ENTRY_STATE: u8 = 9;
+
+const STATISTICS: u8 = 10;
+
+const HASH_BOUND: u8 = 11;
+
+// Not recorded: the Rust has no such call.
+const OPENING: u8 = 12;
+
+const INITIALISE: u8 = 13;
+
+const MARK_FULL: u8 = 14;
+
+const APPEND_SINGLE: u8 = 15;
+
+const APPEND_NAMESPACE: u8 = 16;
+
+const APPEND_VARIABLE: u8 = 17;
+
+const COPY_IN: u8 = 18;
+
+const ERASE: u8 = 19;
+
+const PURGE: u8 = 20;
+
+const PURGE_NAMESPACE: u8 = 21;
+
+// ---- where the arguments lie in the buffers
+
 // Bytes 10..42 of the record.
-const MAP: usize = 4106;
+const MAP: usize = RECORD + 10;
 
-const MAP_END: usize = 4138;
-
-// The image's entries: all behind its header and its map.
-const ENTRIES: usize = 64;
+const MAP_END: usize = RECORD + 42;
 
 // Bytes 40..56 of the request.
-const KEY: usize = 17160;
+const KEY: usize = REQUEST + 40;
 
 // Bytes 56..64 of the request.
-const SINGLE: usize = 17176;
+const SINGLE: usize = REQUEST + 56;
 
 // No buffer has more bytes.
 const MOST: u16 = 4096;
 
-// The calls that hand back a number alone, 0 to 4.
+// ---- the calls
+
+// The calls that hand back a number alone, up to the type byte.
 fn sum(call: u8, given: Request, key: &[u8], data: &[u8]) -> u32 {
-    if call == 0 {
+    if call == CRC32 {
         return sums::nvs_crc32(given.start, data);
     }
-    if call == 1 {
+    if call == ITEM_CRC {
         return sums::nvs_item_crc(data);
     }
-    if call == 2 {
+    if call == HEADER_CRC {
         return sums::nvs_header_crc(data);
     }
-    if call == 3 {
+    if call == HASH {
         return sums::nvs_hash(given.namespace, key, given.chunk);
     }
     sums::nvs_type_byte(given.kind) as u32
 }
 
-// The calls that read an image or no buffer, 5 to 8.
+// The calls that read an image or no buffer, from width to load data.
 fn load(call: u8, given: Request, image: &[u8], output: &mut [u8], answer: &mut [u8]) -> u32 {
-    if call == 5 {
+    if call == WIDTH {
         return reading::nvs_width(given.kind, answer);
     }
-    if call == 6 {
+    if call == LOAD {
         return reading::nvs_load(image, given.index, answer);
     }
-    if call == 7 {
+    if call == RAW_READ {
         return reading::nvs_raw_read(image, given.index, answer);
     }
     reading::nvs_load_data(image, given.index, output, answer)
 }
 
-// The calls over a map, 9 to 11.
+// The calls over a map, from entry state to hash bound.
 fn look(call: u8, given: Request, map: &[u8], entries: &[u8], answer: &mut [u8]) -> u32 {
-    if call == 9 {
+    if call == ENTRY_STATE {
         return reading::nvs_entry_state(map, given.index, answer);
     }
-    if call == 10 {
+    if call == STATISTICS {
         return reading::nvs_statistics(map, answer);
     }
     reading::nvs_hash_bound(map, entries, answer)
 }
 
-// The other calls that change an image: 13, 14, 19 to 21.
+// The other calls that change an image: initialise, mark full, erase and the two purges.
 fn write(call: u8, given: Request, image: &mut [u8], page: &mut [u8; 675]) -> u32 {
-    if call == 13 {
+    if call == INITIALISE {
         return writing::nvs_initialise(image, page, given.start, given.stop);
     }
-    if call == 14 {
+    if call == MARK_FULL {
         return writing::nvs_mark_full(image, page);
     }
-    if call == 19 {
+    if call == ERASE {
         return writing::nvs_erase(image, page, given.index, given.span);
     }
-    if call == 20 {
+    if call == PURGE {
         return writing::nvs_purge(image, given.index, given.span);
     }
     writing::nvs_purge_namespace(image, page, given.namespace)
 }
 
-// Lays a result out: the number, and the answer behind it.
+// Lays a result out: the number, and the answer after it.
 fn put_result(left: &mut [u8], number: u32, answer: [u8; 57])
     requires { ⌜ length (now left) ≡ changedSize ⌝ }
 {
@@ -138,13 +187,12 @@ fn run_look(call: u8, all: &[u8], given: Request, left: &mut [u8])
         call,
         given,
         &all[MAP..MAP_END],
-        &all[ENTRIES..RECORD],
+        &all[ITEMS_OFFSET..RECORD],
         &mut answer,
     );
     put_result(left, number, answer);
 }
 
-// Append single, 15.
 fn append_single(all: &[u8], given: Request, image: &mut [u8], page: &mut [u8; 675]) -> u32
     requires { ⌜ length (now all) ≡ allSize ⌝ }
 {
@@ -161,14 +209,12 @@ fn append_single(all: &[u8], given: Request, image: &mut [u8], page: &mut [u8; 6
     )
 }
 
-// Append namespace, 16.
 fn append_namespace(all: &[u8], given: Request, image: &mut [u8], page: &mut [u8; 675]) -> u32
     requires { ⌜ length (now all) ≡ allSize ⌝ }
 {
     writing::nvs_append_namespace(image, page, &all[KEY..SINGLE], given.value, given.stop)
 }
 
-// Append variable, 17.
 fn append_variable(all: &[u8], given: Request, image: &mut [u8], page: &mut [u8; 675]) -> u32
     requires { ⌜ (length (now all) ≡ allSize) × (given .payload ≤ 4096) ⌝ }
 {
@@ -185,27 +231,26 @@ fn append_variable(all: &[u8], given: Request, image: &mut [u8], page: &mut [u8;
     )
 }
 
-// Copy in, 18.
 fn copy_in(all: &[u8], given: Request, image: &mut [u8], page: &mut [u8; 675]) -> u32
     requires { ⌜ length (now all) ≡ allSize ⌝ }
 {
     writing::nvs_copy_in(image, page, &all[SOURCE..DATA], given.index, given.stop)
 }
 
-// The calls that change an image, 13 to 21.
+// The calls that change an image, from initialise on.
 fn change(call: u8, all: &[u8], given: Request, image: &mut [u8], page: &mut [u8; 675]) -> u32
     requires { ⌜ (length (now all) ≡ allSize) × (given .payload ≤ 4096) ⌝ }
 {
-    if call == 15 {
+    if call == APPEND_SINGLE {
         return append_single(all, given, image, page);
     }
-    if call == 16 {
+    if call == APPEND_NAMESPACE {
         return append_namespace(all, given, image, page);
     }
-    if call == 17 {
+    if call == APPEND_VARIABLE {
         return append_variable(all, given, image, page);
     }
-    if call == 18 {
+    if call == COPY_IN {
         return copy_in(all, given, image, page);
     }
     write(call, given, image, page)
@@ -231,13 +276,13 @@ fn run_change(call: u8, all: &[u8], given: Request, left: &mut [u8])
 fn dispatch(call: u8, all: &[u8], given: Request, left: &mut [u8])
     requires { ⌜ (length (now all) ≡ allSize) × (length (now left) ≡ changedSize) × (given .payload ≤ 4096) × (given .room ≤ 4096) ⌝ }
 {
-    if call < 5 {
+    if call <= TYPE_BYTE {
         return run_sum(call, all, given, left);
     }
-    if call < 9 {
+    if call <= LOAD_DATA {
         return run_load(call, all, given, left);
     }
-    if call < 12 {
+    if call <= HASH_BOUND {
         return run_look(call, all, given, left);
     }
     run_change(call, all, given, left);
@@ -257,7 +302,7 @@ fn run_on(call: u8, all: &[u8], left: &mut [u8]) -> Status
 
 // Runs the call on copies of image, record and output, and lays its result beside them: `left` is what has to be compared.
 pub fn run(call: u8, all: &[u8; ALL], left: &mut [u8; CHANGED]) -> Status {
-    if call == 12 || call > 21 {
+    if call == OPENING || call > PURGE_NAMESPACE {
         return Status::NoCall;
     }
     run_on(call, all, left)
