@@ -39,7 +39,7 @@ fn end(open: bool) -> Status {
     }
     let mut more = [0u8; 1];
     if io::read_full(STDIN_FILENO, &mut more) != 0 {
-        return Status::Behind;
+        return Status::MoreBytes;
     }
     Status::Ended
 }

@@ -15,7 +15,7 @@ fn number(value: u64) {
     io::print_decimal(STDOUT_FILENO, value);
 }
 
-// 20 bytes of a table, and nothing behind its end.
+// 20 bytes of a table, and nothing after its end.
 fn row(table: &[u8], start: usize) {
     if start >= table.len() {
         return;
@@ -47,7 +47,7 @@ fn why(status: Status) {
         Status::NoCall => text(b"a frame there names none of the calls\n"),
         Status::LongRequest => text(b"a request there is for more bytes than a buffer has\n"),
         Status::OutOfOrder => text(b"a call and its compare do not follow each other there\n"),
-        Status::Behind => text(b"bytes follow the end frame there\n"),
+        Status::MoreBytes => text(b"bytes follow the end frame there\n"),
     }
 }
 

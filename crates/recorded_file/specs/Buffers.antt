@@ -1,4 +1,4 @@
--- The seven buffers of a replay (compare/RECORDED.md), one behind the other in one list.
+-- The seven buffers of a replay (compare/RECORDED.md), one after the other in one list.
 --
 -- In order: the sizes of the whole and of what a call changes; where each buffer starts, and its size; that no two share a byte.
 use mathlib.Core.Path.{_≡_, refl}

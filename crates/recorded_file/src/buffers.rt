@@ -1,4 +1,4 @@
-// The seven buffers, one behind the other in one array: first what a call changes, then what it only reads.
+// The seven buffers, one after the other in one array: first what a call changes, then what it only reads.
 ghost use mathlib.Core.Path.{_≡_};
 ghost use Prim.Native.Nat.{_<_};
 ghost use Rattle.recorded_file.specs.Buffers.{startOf, bufferSize};

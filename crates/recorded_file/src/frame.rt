@@ -46,8 +46,8 @@ pub enum Status {
     LongRequest,
     // A call whose compare is missing, or a compare without a call.
     OutOfOrder,
-    // Bytes behind the end frame.
-    Behind,
+    // Bytes after the end frame.
+    MoreBytes,
 }
 
 pub struct Frame {

@@ -9,12 +9,6 @@ Inv-loop cases all₀ left₀ now₀ turns₀ all left now turns = Unit {0}
 abbrev μ-loop : tie.MeasureT-loop
 μ-loop cases all₀ left₀ now₀ turns₀ all left now turns = turns
 
-loop-holds : tie.Need-loop-holds Inv-loop μ-loop
-loop-holds c = tt
-
-loop-again : tie.Need-loop-again Inv-loop μ-loop
-loop-again c = tt
-
 pub replay-spec : {M : Type 1} → statement M
 replay-spec =
     tie.close
@@ -22,11 +16,7 @@ replay-spec =
     Inv-loop
     μ-loop
     (λ c κs. search needs)
-    loop-holds
-    (λ c κs. search needs)
-    (λ c κs. search needs)
-    (λ c. search needs)
-    (λ c. search needs)
-    (λ c. search needs)
-    loop-again
+    (λ c. tt)
+    (λ c κs. search needs) (λ c κs. search needs) (λ c. search needs) (λ c. search needs) (λ c. search needs)
+    (λ c. tt)
     (λ c. search needs))

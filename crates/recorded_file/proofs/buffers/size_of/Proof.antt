@@ -5,9 +5,6 @@ use Rattle.recorded_file.specs.Buffers.{bufferSize}
 use Rattle.recorded_file.proofs.buffers.size_of.Statement.{statement}
 use Rattle.recorded_file.proofs.buffers.size_of.Tie as tie
 
-returns : tie.Need-returns
-unfolding bufferSize
-returns c = refl
-
 pub size-of-spec : {M : Type 1} → statement M
-size-of-spec = tie.close (tie.spec (λ c. search needs) (λ c. search needs) returns)
+unfolding bufferSize
+size-of-spec = tie.close (tie.spec (λ c. search needs) (λ c. search needs) (λ c. refl))

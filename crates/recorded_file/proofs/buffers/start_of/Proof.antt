@@ -5,9 +5,6 @@ use Rattle.recorded_file.specs.Buffers.{startOf}
 use Rattle.recorded_file.proofs.buffers.start_of.Statement.{statement}
 use Rattle.recorded_file.proofs.buffers.start_of.Tie as tie
 
-returns : tie.Need-returns
-unfolding startOf
-returns c = refl
-
 pub start-of-spec : {M : Type 1} → statement M
-start-of-spec = tie.close (tie.spec (λ c. search needs) (λ c. search needs) returns)
+unfolding startOf
+start-of-spec = tie.close (tie.spec (λ c. search needs) (λ c. search needs) (λ c. refl))

@@ -9,12 +9,6 @@ use Rattle.sector.specs.Layout.{field}
 use Rattle.recorded_file.proofs.frame.copy.Statement.{statement}
 use Rattle.recorded_file.proofs.frame.copy.Tie as tie
 
-slice-aggregate-put-2 : tie.Need-slice-aggregate-put-2
-slice-aggregate-put-2 c = rw length-take (omega arith)
-
-put-requires-2 : tie.Need-put-requires-2
-put-requires-2 c κs = rw length-take (omega arith)
-
 returns : tie.Need-returns
 returns c =
     let d = c .before .before in
@@ -31,15 +25,9 @@ pub copy-spec : {M : Type 1} → statement M
 copy-spec =
     tie.close
     (tie.spec
-    (λ c κs. search needs)
-    (λ c. search needs)
-    (λ c. search needs)
-    (λ c. search needs)
-    (λ c. search needs)
-    (λ c. search needs)
-    (λ c κs. search needs)
-    (λ c. search needs)
-    slice-aggregate-put-2
-    put-requires-2
+    (λ c κs. search needs) (λ c. search needs) (λ c. search needs) (λ c. search needs) (λ c. search needs)
+    (λ c. search needs) (λ c κs. search needs) (λ c. search needs)
+    (λ c. rw length-take (omega arith))
+    (λ c κs. rw length-take (omega arith))
     (λ c. search needs)
     returns)

@@ -17,9 +17,6 @@ Inv-loop all₀ at size byte k₀ all k =
 abbrev μ-loop : tie.MeasureT-loop
 μ-loop all₀ at size byte k₀ all k = size - k
 
-loop-holds : tie.Need-loop-holds Inv-loop μ-loop
-loop-holds c = (search needs, paste-zero (c .args .all .now) (c .args .at) (replicate (c .args .size) (c .args .byte)), search needs)
-
 loop-again : tie.Need-loop-again Inv-loop μ-loop
 loop-again c =
     let z = c .before .before .args in
@@ -49,11 +46,8 @@ fill-spec =
     (tie.spec
     Inv-loop
     μ-loop
-    loop-holds
-    (λ c. search needs)
-    (λ c. search needs)
-    (λ c. search needs)
-    (λ c. search needs)
+    (λ c. (search needs, paste-zero (c .args .all .now) (c .args .at) (replicate (c .args .size) (c .args .byte)), search needs))
+    (λ c. search needs) (λ c. search needs) (λ c. search needs) (λ c. search needs)
     loop-again
     (λ c. search needs)
     returns)

@@ -4,26 +4,12 @@ use Rattle.recorded_file.specs.Requests.{requestOf}
 use Rattle.recorded_file.proofs.request.request_of.Statement.{statement}
 use Rattle.recorded_file.proofs.request.request_of.Tie as tie
 
-returns : tie.Need-returns
-unfolding requestOf
-returns c = cc
-
 pub request-of-spec : {M : Type 1} → statement M
+unfolding requestOf
 request-of-spec =
     tie.close
     (tie.spec
-    (λ c. search needs)
-    (λ c. search needs)
-    (λ c. search needs)
-    (λ c. search needs)
-    (λ c κs. search needs)
-    (λ c κs. search needs)
-    (λ c κs. search needs)
-    (λ c κs. search needs)
-    (λ c. search needs)
-    (λ c. search needs)
-    (λ c κs. search needs)
-    (λ c. search needs)
-    (λ c. search needs)
-    (λ c κs. search needs)
-    returns)
+    (λ c. search needs) (λ c. search needs) (λ c. search needs) (λ c. search needs) (λ c κs. search needs)
+    (λ c κs. search needs) (λ c κs. search needs) (λ c κs. search needs) (λ c. search needs) (λ c. search needs)
+    (λ c κs. search needs) (λ c. search needs) (λ c. search needs) (λ c κs. search needs)
+    (λ c. cc))
