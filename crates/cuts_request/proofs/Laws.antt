@@ -9,14 +9,14 @@ use native.Mathlib.Omega.{arith}
 use lib.Dec.{eqb, ltb, leb}
 use lib.ListN.{length, getD, drop}
 use lib.Seq.{drop-cons, drop-length}
-use borrow.Author.Tests.{lt-ltb, le-ltb, le-leb, lt-leb, leb-true}
+use borrow.Author.Tests.{leb-true}
 use Rattle.sector.specs.Layout.{sameBytes}
 use Rattle.cuts_request.specs.declared.Number.{Number}
 use Rattle.cuts_request.specs.Words.{goodNumber, noNumber, digitOf, digitsFrom, digitsOf, isHex, numberIn, Name, orNamed, typeNames, namedAmong, typeOf}
 
 -- ---- numbers
 
--- a digit fits behind those passed
+-- a digit fits after those passed
 pub digit-fits : (base most value digit : ℕ) → 0 < base → digit ≤ most → value ≤ (most - digit) / base → value * base + digit ≤ most
 digit-fits base most value digit h g e =
     let product : value * base ≤ most - digit = le-div-iff-mul-le h .0 e in omega arith
@@ -26,24 +26,18 @@ pub digit-over : (base most value digit : ℕ) → 0 < base → digit ≤ most �
 digit-over base most value digit h g e =
     let product : most - digit < value * base = div-lt-iff-lt-mul h .0 e in omega arith
 
-module _ (base most value : ℕ) (text : List ℕ) (i digit : ℕ) (inside : i < length text) (e : digit ≡ digitOf (getD text i 0)) where
-  -- the digit at i decides
-  digits-step : digitsFrom base most value (drop i text)
-      ≡ cond (ltb digit base && leb (value * base + digit) most)
-      (digitsFrom base most (value * base + digit) (drop (i + 1) text))
-      noNumber
-  unfolding digitsFrom
-  digits-step = rw (e, add-one i, drop-cons text i 0 inside)
+-- alone it is too large
+pub digit-past : {most digit : ℕ} (base value : ℕ) → most < digit → most < value * base + digit
+digit-past base value h = omega arith
 
-  pub digits-pass : digit < base → value * base + digit ≤ most
-      → digitsFrom base most value (drop i text) ≡ digitsFrom base most (value * base + digit) (drop (i + 1) text)
-  digits-pass h g = rw (lt-ltb digit base h, le-leb (value * base + digit) most g) at digits-step
-
-  pub digits-none : base ≤ digit → digitsFrom base most value (drop i text) ≡ noNumber
-  digits-none h = rw (le-ltb digit base h) at digits-step
-
-  pub digits-over : digit < base → most < value * base + digit → digitsFrom base most value (drop i text) ≡ noNumber
-  digits-over h g = rw (lt-ltb digit base h, lt-leb (value * base + digit) most g) at digits-step
+-- the digit at i decides
+pub digits-step : (base most value : ℕ) (text : List ℕ) (i digit : ℕ) → i < length text → digit ≡ digitOf (getD text i 0)
+    → digitsFrom base most value (drop i text)
+    ≡ cond (ltb digit base && leb (value * base + digit) most)
+    (digitsFrom base most (value * base + digit) (drop (i + 1) text))
+    noNumber
+unfolding digitsFrom
+digits-step base most value text i digit inside e = rw (e, add-one i, drop-cons text i 0 inside)
 
 -- past the last digit
 pub digits-end : (base most value : ℕ) (text : List ℕ) (i : ℕ) → i ≡ length text → digitsFrom base most value (drop i text) ≡ goodNumber value

@@ -33,7 +33,7 @@ digitOf byte =
     (cond (ltb byte 0x61) 16
     (cond (ltb byte 0x67) (byte - 0x57) 16)))))
 
--- the number that digits of a base stand for, behind digits that stand for `before`; none where a byte is no digit of
+-- the number that digits of a base stand for, after digits that stand for `before`; none where a byte is no digit of
 -- the base, or where the number is over `most`
 unfoldable pub digitsFrom : ℕ → ℕ → ℕ → List ℕ → Number
 digitsFrom base most before [] = goodNumber before
@@ -50,7 +50,7 @@ digitsOf base most text = cond (eqb (length text) 0) noNumber (digitsFrom base m
 abbrev pub isHex : List ℕ → Bool
 isHex text = ltb 1 (length text) && (eqb (getD text 0 0) 0x30 && eqb (getD text 1 0) 0x78)
 
--- a number from 0 to `most`, in decimal digits, or in hexadecimal ones behind 0x
+-- a number from 0 to `most`, in decimal digits, or in hexadecimal ones with a 0x prefix
 abbrev pub numberIn : ℕ → List ℕ → Number
 numberIn most text = cond (isHex text) (digitsOf 16 most (drop 2 text)) (digitsOf 10 most text)
 

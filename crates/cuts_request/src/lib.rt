@@ -119,7 +119,7 @@ fn is_hex(text: &[u8]) -> bool
     text[1] == b'x'
 }
 
-// A number from 0 to `most`, in decimal digits, or in hexadecimal ones behind 0x. Any other word is no number.
+// A number from 0 to `most`, in decimal digits, or in hexadecimal ones with a 0x prefix. Any other word is no number.
 pub fn number_of(most: u64, text: &[u8]) -> Number
     ensures { λ r. ⌜ r ≡ numberIn most (now (text .entry)) ⌝ }
 {
@@ -141,7 +141,7 @@ pub fn is_key(text: &[u8]) -> bool
     text.len() < KEY_SIZE
 }
 
-// The 16 key bytes: the word, and zeros behind it. Of a word that is no key, zeros.
+// The 16 key bytes: the word, and zeros after it. Of a word that is no key, zeros.
 pub fn key_bytes(text: &[u8]) -> [u8; 16]
     ensures { λ r. ⌜ r ≡ keyBytes (now (text .entry)) ⌝ }
 {

@@ -6,15 +6,12 @@ use lib.ListN.{length}
 use Rattle.cuts_request.proofs.is_hex.Statement.{statement}
 use Rattle.cuts_request.proofs.is_hex.Tie as tie
 
-returns : tie.Need-returns
-returns c = rw (le-ltb 1 (length (c .before .args .text .now)) (omega arith))
-
-returns-2 : tie.Need-returns-2
-returns-2 c = rw (lt-ltb 1 (length (c .before .before .before .args .text .now)) (omega arith), ne-eqb _ _ (c .if2 .taken))
-
-returns-3 : tie.Need-returns-3
-returns-3 c = rw (lt-ltb 1 (length (c .before .before .before .before .args .text .now)) (omega arith), eq-eqb _ _ (c .before .if2 .left))
-
 pub is-hex-spec : {M : Type 1} → statement M
 is-hex-spec =
-    tie.close (tie.spec returns (λ c. search needs) returns-2 (λ c. search needs) returns-3)
+    tie.close
+    (tie.spec
+    (λ c. rw (le-ltb 1 (length (c .before .args .text .now)) (omega arith)))
+    (λ c. search needs)
+    (λ c. rw (lt-ltb 1 (length (c .before .before .before .args .text .now)) (omega arith), ne-eqb _ _ (c .if2 .taken)))
+    (λ c. search needs)
+    (λ c. rw (lt-ltb 1 (length (c .before .before .before .before .args .text .now)) (omega arith), eq-eqb _ _ (c .before .if2 .left))))

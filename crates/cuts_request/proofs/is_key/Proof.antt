@@ -5,11 +5,9 @@ use lib.ListN.{length}
 use Rattle.cuts_request.proofs.is_key.Statement.{statement}
 use Rattle.cuts_request.proofs.is_key.Tie as tie
 
-returns : tie.Need-returns
-returns c = rw (c .if1 .taken)
-
-returns-2 : tie.Need-returns-2
-returns-2 c = rw (lt-ltb 0 (length (c .before .args .text .now)) (omega arith))
-
 pub is-key-spec : {M : Type 1} → statement M
-is-key-spec = tie.close (tie.spec returns returns-2)
+is-key-spec =
+    tie.close
+    (tie.spec
+    (λ c. rw (c .if1 .taken))
+    (λ c. rw (lt-ltb 0 (length (c .before .args .text .now)) (omega arith))))

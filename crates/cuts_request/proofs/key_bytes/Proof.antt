@@ -31,9 +31,11 @@ returns c =
     let key = sym (c .before .before .before .before .is-key .ensures) ∙ c .before .before .before .if1 .taken in
     c .before .copy .ensures .1 ∙ rw (key, take-length text, drop-replicate {A = ℕ} (length text) 16 0)
 
-returns-2 : tie.Need-returns-2
-returns-2 c = rw (sym (c .before .is-key .ensures) ∙ c .if1 .left)
-
 pub key-bytes-spec : {M : Type 1} → statement M
 key-bytes-spec =
-    tie.close (tie.spec (λ c κs. search needs) (λ c. search needs) copy-requires returns returns-2)
+    tie.close
+    (tie.spec
+    (λ c κs. search needs) (λ c. search needs)
+    copy-requires
+    returns
+    (λ c. rw (sym (c .before .is-key .ensures) ∙ c .if1 .left)))

@@ -21,5 +21,4 @@ returns c =
 
 pub largest-of-spec : {M : Type 1} → statement M
 largest-of-spec =
-    tie.close
-    (tie.spec (λ c κs. search needs) cast-value-width (λ c κs. search needs) (λ c κs. search needs) returns)
+    tie.close (tie.spec (λ c κs. search needs) cast-value-width (λ c κs. search needs) (λ c κs. search needs) returns)

@@ -17,36 +17,26 @@ use Rattle.cuts_request.proofs.number_of.Tie as tie
 hex-long : (text : List ℕ) → isHex text ≡ true → 1 < length text
 hex-long text e = ltb-true 1 _ (and-left _ _ e)
 
-sub-digits-of : tie.Need-sub-digits-of
-sub-digits-of c =
-    let long = hex-long (c .before .before .before .args .text .now) (sym (c .before .is-hex .ensures) ∙ c .if1 .taken) in
-    omega arith
-
-part-digits-of-start : tie.Need-part-digits-of-start
-part-digits-of-start c =
-    let long = hex-long (c .before .before .before .args .text .now) (sym (c .before .is-hex .ensures) ∙ c .if1 .taken) in
-    omega arith
+-- so the part after them starts within it
+long : (c : tie.Then1) → 1 < length (c .before .before .before .args .text .now)
+long c = hex-long (c .before .before .before .args .text .now) (sym (c .before .is-hex .ensures) ∙ c .if1 .taken)
 
 returns : tie.Need-returns
 returns c =
     let z = c .before .before .before .before .before .args in
     let text = z .text .now in
-    let behind = take-all (length text - 2) (drop 2 text) (simp length-drop (omega arith)) in
+    let rest = take-all (length text - 2) (drop 2 text) (simp length-drop (omega arith)) in
     rw (sym (c .before .before .before .is-hex .ensures) ∙ c .before .before .if1 .taken)
-    (c .digits-of .ensures ∙ ap (digitsOf 16 (z .most)) behind)
-
-returns-2 : tie.Need-returns-2
-returns-2 c = rw (sym (c .before .before .is-hex .ensures) ∙ c .before .if1 .left) (c .digits-of2 .ensures)
+    (c .digits-of .ensures ∙ ap (digitsOf 16 (z .most)) rest)
 
 pub number-of-spec : {M : Type 1} → statement M
 number-of-spec =
     tie.close
     (tie.spec
     (λ c κs. search needs)
-    sub-digits-of
-    part-digits-of-start
-    (λ c. search needs)
-    (λ c κs. search needs)
+    (λ c. omega (arith, long c))
+    (λ c. omega (arith, long c))
+    (λ c. search needs) (λ c κs. search needs)
     returns
     (λ c κs. search needs)
-    returns-2)
+    (λ c. rw (sym (c .before .before .is-hex .ensures) ∙ c .before .if1 .left) (c .digits-of2 .ensures)))

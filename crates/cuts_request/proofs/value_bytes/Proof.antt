@@ -37,12 +37,6 @@ returns c =
     let z = c .before .before .before .args in
     past (z .width) (z .value) (omega arith) (c .before .before .little-endian-8 .ensures)
 
-slice-aggregate-copy : tie.Need-slice-aggregate-copy
-slice-aggregate-copy c = sym (length-take-le _ _ (search needs))
-
-copy-requires : tie.Need-copy-requires
-copy-requires c κs = rw (length-take) (omega arith)
-
 returns-2 : tie.Need-returns-2
 returns-2 c =
     let z = c .before .before .before .before .before .before .before .args in
@@ -55,11 +49,10 @@ pub value-bytes-spec : {M : Type 1} → statement M
 value-bytes-spec =
     tie.close
     (tie.spec
-    (λ c κs. search needs)
-    (λ c κs. search needs)
+    (λ c κs. search needs) (λ c κs. search needs)
     returns
     (λ c. search needs)
-    slice-aggregate-copy
+    (λ c. sym (length-take-le _ _ (search needs)))
     (λ c. search needs)
-    copy-requires
+    (λ c κs. rw (length-take) (omega arith))
     returns-2)
