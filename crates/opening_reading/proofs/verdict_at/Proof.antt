@@ -13,12 +13,7 @@ pub verdict-at-spec : {M : Type 1} → statement M
 verdict-at-spec =
     tie.close
     (tie.spec
-    (λ c κs. search needs)
-    (λ c. search needs)
-    (λ c. search needs)
-    (λ c κs. search needs)
-    (λ c. search needs)
-    (λ c. search needs)
+    (λ c κs. search needs) (λ c. search needs) (λ c. search needs) (λ c κs. search needs) (λ c. search needs) (λ c. search needs)
     (λ c. rw (sym (c .before .before .state-at .ensures) ∙ c .enum-told .given .1))
     returns-2
     (λ c. rw (sym (c .before .before .state-at .ensures) ∙ c .enum-told3 .given .1))

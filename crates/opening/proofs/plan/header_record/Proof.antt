@@ -33,11 +33,7 @@ pub header-record-spec : {M : Type 1} → statement M
 header-record-spec =
     tie.close
     (tie.spec
-    (λ c κs. search needs)
-    (λ c κs. search needs)
-    (λ c κs. search needs)
-    (λ c κs. search needs)
-    (λ c κs. search needs)
+    (λ c κs. search needs) (λ c κs. search needs) (λ c κs. search needs) (λ c κs. search needs) (λ c κs. search needs)
     (λ c. omega (arith, counted (c .before)))
     (λ c. omega (arith, counted (c .before .before)))
     (λ c. search needs)

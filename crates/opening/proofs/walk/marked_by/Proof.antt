@@ -24,10 +24,7 @@ pub marked-by-spec : {M : Type 1} → statement M
 marked-by-spec =
     tie.close
     (tie.spec
-    (λ c. search needs)
-    (λ c. search needs)
-    (λ c κs. search needs)
-    (λ c. search needs)
+    (λ c. search needs) (λ c. search needs) (λ c κs. search needs) (λ c. search needs)
     (λ c. omega (arith, refused-fits (c .before)))
     (λ c κs. omega (arith, refused-fits (c .before)))
     (λ c. search needs)

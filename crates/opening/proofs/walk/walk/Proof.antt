@@ -100,11 +100,9 @@ walk-spec =
     loop-holds
     (λ c κs. search needs)
     marked-by-requires
-    (λ c κs. search needs)
-    (λ c. search needs)
+    (λ c κs. search needs) (λ c. search needs)
     listed-by-requires
-    (λ c. search needs)
-    (λ c κs. search needs)
+    (λ c. search needs) (λ c κs. search needs)
     add-index-2
     loop-less
     loop-again
