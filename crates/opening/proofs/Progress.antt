@@ -18,16 +18,16 @@ use Rattle.sector.specs.declared.EntryMapState.the-variants.{Written, Erased}
 use Rattle.sector.specs.Item.{hashOfItem}
 use Rattle.sector.specs.Layout.{entriesPerPage, entryAt, entriesOf, namespaceOf}
 use Rattle.sector.specs.Map.{unpack, statesOf, stateAt, markRange}
-use Rattle.sector.proofs.Laws.{drop-replicate, length-statesOf, length-markRange, length-entriesOf}
+use Rattle.sector.proofs.Laws.{drop-replicate, length-statesOf, length-markRange}
 use Rattle.sector.proofs.Marks.{marked, take-marked, drop-marked, marked-erased, statesOf-markRange, unpack-markRange, bytes-markRange}
 use Rattle.opening.specs.declared.Listing.{Listing}
 use Rattle.opening_reading.specs.declared.Verdict.{Verdict}
 use Rattle.opening_reading.specs.declared.Verdict.the-variants.{NotAnItem, RefusedEntry, RefusedItem, Kept}
-use Rattle.opening_reading.specs.Reading.{Item, isUsable, usable, verdictAt, stepsOver, markOf, markBehind, walk, withKept, keptFrom}
+use Rattle.opening_reading.specs.Reading.{isUsable, usable, verdictAt, stepsOver, markOf, markBehind, walk, withKept, keptFrom}
 use Rattle.opening_marks.specs.Marks.{HasStates}
 use Rattle.opening.specs.Opening.{isRefusedItem, refusedHeaders, listedItems}
 use Rattle.opening.specs.Steps.{markedBy, listingOf, withListed, listedBy}
-use Rattle.opening_reading.proofs.Entries.{states-from, entries-from}
+use Rattle.opening_reading.proofs.Entries.{states-from, entries-from, entries-left}
 use Rattle.opening_reading.proofs.Midway.{both-written}
 use Rattle.opening.proofs.Steps.{walk-skip, refused-headers-skip, kept-skip, steps-over-le, kept-usable}
 
@@ -54,11 +54,6 @@ abbrev pub verdictOf : List ℕ → List ℕ → ℕ → Verdict
 verdictOf image map i = verdictAt (stateAt map i) (entryAt image i) (drop (i + 1) (statesOf map)) (drop (i + 1) (entriesOf image))
 
 module _ (image map : List ℕ) (i : ℕ) (long : length map ≡ 32) (inside : i < 126) where
-  entries-behind : length (drop (i + 1) (entriesOf image)) ≡ 125 - i
-  entries-behind =
-      let all = length-entriesOf image in
-      length-drop (i + 1) (entriesOf image) ∙ omega arith
-
   states-behind : length (drop (i + 1) (statesOf map)) ≡ 125 - i
   states-behind =
       let all = length-statesOf map long in
@@ -68,14 +63,14 @@ module _ (image map : List ℕ) (i : ℕ) (long : length map ≡ 32) (inside : i
   pub steps-inside : i + stepsOver (verdictOf image map i) < 126
   steps-inside =
       let steps = steps-over-le (stateAt map i) (entryAt image i) (drop (i + 1) (statesOf map)) (drop (i + 1) (entriesOf image)) in
-      let behind = entries-behind in
+      let left = entries-left image i in
       omega arith
 
   steps-states : stepsOver (verdictOf image map i) ≤ length (drop (i + 1) (statesOf map))
   steps-states = rw states-behind (omega (arith, steps-inside))
 
   steps-entries : stepsOver (verdictOf image map i) ≤ length (drop (i + 1) (entriesOf image))
-  steps-entries = rw entries-behind (omega (arith, steps-inside))
+  steps-entries = rw (entries-left image i) (omega (arith, steps-inside))
 
   -- ---- one step of each list, from what is left at this index
 

@@ -25,7 +25,7 @@ use Rattle.sector.proofs.Marks.{countIn-append}
 use Rattle.opening_reading.specs.Reading.{Item, item}
 use Rattle.opening.specs.Opening.{keptItems, openedMap, openedPage, headerOf, listedItems}
 use Rattle.opening_reading.proofs.Verdicts.{States, Entries}
-use Rattle.theorem_reopening.proofs.OpenedFront.{count-empties}
+use Rattle.theorem_reopening.proofs.OpenedFront.{count-none}
 use Rattle.theorem_power_cut.proofs.Standing.{Standing, standing-map, standing-kept, standing-openedMap}
 
 -- ---- fields of the header
@@ -35,6 +35,10 @@ pub field-front : (offset size : ℕ) (front rest : List ℕ) → offset + size 
 field-front offset size front rest h =
     ap (take size) (drop-append-le offset front rest (omega arith))
     ∙ take-append-le size (drop offset front) rest (rw (length-drop offset front) (omega arith))
+
+pub version-front : (front rest : List ℕ) → length front ≡ 32 → versionOf (front ++ rest) ≡ versionOf front
+version-front front rest size =
+    sym (getD-take 32 (front ++ rest) 8 0 (omega arith)) ∙ ap (λ (bytes : List ℕ). getD bytes 8 0) (take-at front rest 32 size)
 
 -- ---- the record of a page that stands
 
@@ -59,15 +63,12 @@ module _ (image header rest map : List ℕ) (front : States) (spare : ℕ) (item
   header-field : (offset width : ℕ) → offset + width ≤ 32 → field offset width image ≡ field offset width header
   header-field offset width h = ap (field offset width) split ∙ field-front offset width header rest (omega arith)
 
-  header-version : versionOf image ≡ versionOf header
-  header-version = sym (getD-take 32 image 8 0 (omega arith)) ∙ ap (λ (bytes : List ℕ). getD bytes 8 0) (ap (take 32) split ∙ take-at header rest 32 size)
-
   count-front : (s : EntryMapState) → sameState s Empty ≡ false → countIn s (statesOf (openedMap image)) ≡ countIn s front
   count-front s e =
       ap (λ (map : List ℕ). countIn s (statesOf map)) map-is
       ∙ ap (countIn s) states
       ∙ countIn-append s front (replicate spare Empty)
-      ∙ omega (arith, count-empties s spare e)
+      ∙ omega (arith, count-none s Empty spare e)
 
   pub opened-is : openedPage image ≡ pageOf header map front items
   unfolding openedPage
@@ -76,7 +77,7 @@ module _ (image header rest map : List ℕ) (front : States) (spare : ℕ) (item
         header-field 0 4 (omega arith),
         header-field 4 4 (omega arith),
         header-field 28 4 (omega arith),
-        header-version,
+        ap versionOf split ∙ version-front header rest size,
         kept,
         count-front Written refl,
         count-front Erased refl,
@@ -127,11 +128,6 @@ unfolding countIn
 count-written zero = refl
 count-written (suc n) = let rest = count-written n in omega arith
 
-count-written-erased : (n : ℕ) → countIn Erased (replicate n Written) ≡ 0
-unfolding countIn
-count-written-erased zero = refl
-count-written-erased (suc n) = let rest = count-written-erased n in omega arith
-
 -- what a call hands back for a new item is what opening will read
 module _ (header after map : List ℕ) (front : States) (items : List Item) (entry : List ℕ) (new : Entries) (span : ℕ)
     (counted : countIn Written front + countIn Erased front ≡ length front)
@@ -167,6 +163,6 @@ module _ (header after map : List ℕ) (front : States) (items : List Item) (ent
         countIn-append Written front (replicate span Written),
         countIn-append Erased front (replicate span Written),
         count-written span,
-        count-written-erased span,
+        count-none Erased Written span refl,
         add-zero (countIn Erased front),
       )

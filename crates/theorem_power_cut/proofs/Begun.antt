@@ -24,6 +24,7 @@ use Rattle.page.specs.Writing.{fullUnits, itemPlan}
 use Rattle.opening_reading.specs.Reading.{isUsable, Item, item, keptFrom}
 use Rattle.opening.specs.Opening.{keptItems}
 use Rattle.opening_reading.proofs.Verdicts.{States, Entries, Whole}
+use Rattle.theorem_writing.proofs.FitRecords.{every-replicate}
 use Rattle.theorem_reopening.proofs.Closed.{closed-append-item}
 use Rattle.theorem_reopening.proofs.Cuts.{Marking, kept-unmarked, kept-marked}
 use Rattle.theorem_power_cut.proofs.Chunks.{chunks-append}
@@ -61,14 +62,9 @@ abbrev mixed : ℕ → ℕ → States
 mixed q k = take q (replicate k Written) ++ drop q (replicate k Empty)
 
 mixed-usable : (q k : ℕ) → every isUsable (mixed q k) ≡ true
-mixed-usable zero zero = refl
-mixed-usable zero (suc k) = mixed-usable zero k
+mixed-usable zero k = every-replicate isUsable k Empty refl
 mixed-usable (suc q) zero = refl
 mixed-usable (suc q) (suc k) = mixed-usable q k
-
-all-usable : (k : ℕ) → every isUsable (replicate k Written) ≡ true
-all-usable zero = refl
-all-usable (suc k) = all-usable k
 
 length-mixed : (q k : ℕ) → length (mixed q k) ≡ k
 length-mixed zero k = length-replicate k Empty
@@ -284,7 +280,7 @@ module _ {image : List ℕ} {items : List Item} (p : Standing image items) {entr
   pub kept′ : keptFrom zero zero front′ (chunks start (p .used) ++ (entry ∷ new)) ≡ items ++ (item start (entry ∷ new) ∷ [])
   kept′ =
       let marking : Marking entry (replicate (length new) Written) new =
-      record { whole = w .whole; covers = length-replicate (length new) Written; started = all-usable (length new) } in
+      record { whole = w .whole; covers = length-replicate (length new) Written; started = every-replicate isUsable (length new) Written refl } in
       (rw (append-nil (replicate (length new) Written), append-nil new) at (kept-marked (p .closed) marking 0 []))
       ∙ ap (λ (earlier : List Item). earlier ++ (item start (entry ∷ new) ∷ [])) (p .kept)
 

@@ -4,7 +4,7 @@
 use mathlib.Core.Path.{_≡_, refl, sym, ap, ap₂, _∙_, subst}
 use mathlib.Core.Bool.{Bool, true, false, cond}
 use mathlib.Core.List.{List, [], _∷_, _++_, List·Memᴰ}
-use Prim.Native.Nat.{ℕ, zero, suc, _+_, _-_, _*_, _≤_, _<_}
+use Prim.Native.Nat.{ℕ, zero, _+_, _-_, _*_, _≤_, _<_}
 use native.Mathlib.Nat.{zero-add}
 use native.Mathlib.Omega.{arith}
 use lib.Dec.{eqb}
@@ -26,6 +26,7 @@ use Rattle.opening.specs.Opening.{headerOf, listedItems}
 use Rattle.opening_reading.proofs.Verdicts.{States, Entries}
 use Rattle.theorem_reopening.proofs.KeptItem.{Place, place, closed-erase, kept-erase, place-fits, Indices, indices-nil, indices-cons, indices-before, indices-after, member-split}
 use Rattle.theorem_reopening.proofs.OpenedFront.{count-closed}
+use Rattle.theorem_writing.proofs.FitRecords.{every-replicate}
 use Rattle.theorem_power_cut.specs.History.{withoutItem}
 use Rattle.theorem_power_cut.proofs.Standing.{Standing, standing-map-bytes}
 use Rattle.theorem_power_cut.proofs.AtHand.{pageOf}
@@ -80,10 +81,6 @@ listed-without index (item i entries ∷ items) =
     by-tests false n false g e = rw (n, g) (rw n (ap (λ (places : List Listed). place-of ∷ places) e))
 
 -- ---- the page without the item
-
-all-written : (n : ℕ) → every (sameState Written) (replicate n Written) ≡ true
-all-written zero = refl
-all-written (suc n) = all-written n
 
 in-use : (places : List Listed) → take (length places) (padded places) ≡ places
 in-use places = take-at places (replicate (126 - length places) noItem) (length places) refl
@@ -154,7 +151,7 @@ module _ {image : List ℕ} {items : List Item} (p : Standing image items) (j : 
       ap₂ (λ (i : ℕ) (states : States). take n (drop i states)) (here .index ∙ zero-add (length (here .ahead))) (here .states-split)
       ∙ ap (take n) (drop-at (here .ahead) (replicate n Written ++ here .rest) (length (here .ahead)) refl)
       ∙ take-at (replicate n Written) (here .rest) n (length-replicate n Written) in
-      countIn-erased j n (p .front) fits (ap (every (sameState Written)) written ∙ all-written n)
+      countIn-erased j n (p .front) fits (ap (every (sameState Written)) written ∙ every-replicate (sameState Written) n Written refl)
 
   counts : (countIn Written (p .front) - n ≡ countIn Written front′) × (countIn Erased (p .front) + n ≡ countIn Erased front′)
   counts =

@@ -13,7 +13,7 @@ use borrow.Author.Tests.{lt-ltb}
 use Rattle.flash.specs.Flash.{every, allOnes}
 use Rattle.page.specs.declared.Listed.{Listed}
 use Rattle.page.specs.declared.ThinPage.{ThinPage}
-use Rattle.page.specs.Record.{noItem, placeFits, uninitialized, fitToUse}
+use Rattle.page.specs.Record.{noItem, placeFits, placeZero, uninitialized, fitToUse}
 use Rattle.page.proofs.Laws.{fit-of}
 use Rattle.sector.specs.declared.EntryMapState.the-variants.{Empty, Written}
 use Rattle.sector.specs.Header.{stateOfWord, isInUse}
@@ -26,8 +26,8 @@ use Rattle.opening_reading.specs.declared.Verdict.the-variants.{NotAnItem, Refu
 use Rattle.opening_reading.specs.Reading.{verdictAt, stepsOver, Item, item, withKept, keptFrom}
 use Rattle.opening_reading.proofs.Verdicts.{States, Entries}
 use Rattle.opening.specs.Opening.{headerOf, listedItems}
-use Rattle.theorem_writing.proofs.FitRecords.{known-state, known-fits, zero-places, hash-short}
-use Rattle.theorem_reopening.proofs.OpenedFront.{count-closed, count-empties}
+use Rattle.theorem_writing.proofs.FitRecords.{known-state, known-fits, every-replicate, hash-short}
+use Rattle.theorem_reopening.proofs.OpenedFront.{count-closed, count-none}
 use Rattle.theorem_reopening.proofs.KeptItem.{Indices, indices-nil, indices-cons, indices-keptFrom}
 use Rattle.theorem_power_cut.specs.PowerCut.{RecordIsFit}
 use Rattle.theorem_power_cut.proofs.Standing.{Standing}
@@ -99,7 +99,7 @@ module _ {image : List ℕ} {items : List Item} (p : Standing image items) where
   written =
       ap (countIn Written) (p .states)
       ∙ countIn-append Written (p .front) (replicate (p .spare) Empty)
-      ∙ omega (arith, count-empties Written (p .spare) refl)
+      ∙ omega (arith, count-none Written Empty (p .spare) refl)
 
 held-fit : {image : List ℕ} {page : ThinPage} {items : List Item} → Held image page items → fitToUse page ≡ true
 held-fit {items = items} h =
@@ -115,7 +115,7 @@ held-fit {items = items} h =
       len-fits = omega (arith, count-closed (p .closed), few p);
       written-fits = omega (arith, written p);
       listed-fit = rw (take-append-seam places blanks) (places-fit p);
-      behind-zero = rw (drop-append-seam places blanks) (zero-places (126 - length places));
+      behind-zero = rw (drop-append-seam places blanks) (every-replicate placeZero (126 - length places) noItem refl);
       blank-fits = known-fits at-hand (known-state isInUse refl (stateOfWord (stateWord (p .header))) (opens .state));
     }))
 

@@ -7,8 +7,8 @@ use mathlib.Core.List.{List, [], _∷_, _++_}
 use Prim.Native.Nat.{ℕ, zero, suc, _≤_}
 use native.Mathlib.Omega.{arith}
 use lib.Dec.{eqb}
-use lib.ListN.{length, take, drop, getD, take-append-drop}
-use lib.Seq.{getD-take, getD-drop, take-at, take-length, drop-drop}
+use lib.ListN.{length, take, drop, take-append-drop}
+use lib.Seq.{getD-drop, take-length, drop-drop}
 use borrow.Author.Tests.{eqb-true}
 use Rattle.crc.specs.Crc.{crc32}
 use Rattle.flash.specs.Flash.{units, run, program, allOnes}
@@ -21,7 +21,7 @@ use Rattle.sector.specs.Layout.{number, stateWord, versionOf, storedHeaderCrc}
 use Rattle.opening.specs.Opening.{headerVerdictOf}
 use Rattle.opening.specs.declared.HeaderVerdict.the-variants.{Blank, Opens, WrongPageState, WrongVersion, WrongHeaderCrc}
 use Rattle.theorem_writing.proofs.FitRecords.{known-state}
-use Rattle.theorem_power_cut.proofs.AtHand.{field-front}
+use Rattle.theorem_power_cut.proofs.AtHand.{field-front, version-front}
 
 -- ---- what decides
 
@@ -64,10 +64,6 @@ module _ (header rest : List ℕ) (size : length header ≡ 32) where
   word-front : stateWord (header ++ rest) ≡ stateWord header
   word-front = ap number (field-front 0 4 header rest (omega arith))
 
-  version-front : versionOf (header ++ rest) ≡ versionOf header
-  version-front =
-      sym (getD-take 32 (header ++ rest) 8 0 (omega arith)) ∙ ap (λ (bytes : List ℕ). getD bytes 8 0) (take-at header rest 32 size)
-
   crc-front : headerCrc (header ++ rest) ≡ headerCrc header
   unfolding headerCrc
   crc-front = ap (crc32 crcStart) (field-front 4 24 header rest (omega arith))
@@ -79,12 +75,12 @@ module _ (header rest : List ℕ) (size : length header ≡ 32) where
   header-opens o =
       record {
         state = rw word-front at (o .state);
-        version = rw version-front at (o .version);
+        version = rw (version-front header rest size) at (o .version);
         crc = rw (crc-front, stored-front) at (o .crc);
       }
 
   pub image-opens : HeaderOpens header → HeaderOpens (header ++ rest)
-  image-opens o = record { state = rw word-front (o .state); version = rw version-front (o .version); crc = rw (crc-front, stored-front) (o .crc) }
+  image-opens o = record { state = rw word-front (o .state); version = rw (version-front header rest size) (o .version); crc = rw (crc-front, stored-front) (o .crc) }
 
 -- ---- the state word
 

@@ -76,10 +76,6 @@ pub plan-long : (sequence : ℕ) → length (initialisePlan sequence) ≡ 8
 unfolding initialisePlan
 plan-long sequence = length-units-whole 0 8 (headerBytes sequence) (header-long sequence)
 
--- nothing yet
-cut-0 : (sequence : ℕ) → opening (initialiseImage blank uninitialized sequence 0) ≡ answered Done uninitialized
-cut-0 sequence = ap opening (stopped sequence 0) ∙ blank-opening
-
 -- a state, and no version
 cut-1 : (sequence : ℕ) → opening (initialiseImage blank uninitialized sequence 1) ≡ answered CorruptedData uninitialized
 unfolding opening headerVerdictOf stateOfWord headerBytes
@@ -137,7 +133,7 @@ move sequence n m e (inr (inr c)) = inr (inr (e ∙ c))
 -- the units between the version and the CRC are 0xFF
 blank-cut : (sequence n : ℕ) → Cut sequence n
 unfolding headerBytes
-blank-cut sequence zero = inl (cut-0 sequence)
+blank-cut sequence zero = inl (ap opening (stopped sequence 0) ∙ blank-opening)
 blank-cut sequence (suc zero) = inr (inl (cut-1 sequence))
 blank-cut sequence (suc (suc zero)) = inr (inl (cut-2 sequence))
 blank-cut sequence (suc (suc (suc zero))) = cut-3 sequence

@@ -15,7 +15,7 @@ use Rattle.page.specs.declared.ThinPage.{ThinPage}
 use Rattle.sector.specs.declared.Answer.the-variants.{Done}
 use Rattle.sector.specs.Answers.{accepted}
 use Rattle.sector.specs.Item.{loads}
-use Rattle.sector.specs.Layout.{entryAddress, mapOf, entryAt, entriesOf, spanOf, sizeOf}
+use Rattle.sector.specs.Layout.{entryAddress, entryAt, entriesOf, spanOf, sizeOf}
 use Rattle.sector.specs.Types.{itemType, hasPayload, sanitized}
 use Rattle.sector.proofs.Laws.{length-chunks, length-entriesOf}
 use Rattle.call_load.specs.Load.{loadItem}
@@ -30,7 +30,7 @@ use Rattle.opening.specs.Opening.{headerOf}
 use Rattle.theorem_reopening.proofs.KeptItem.{WholeAt}
 use Rattle.theorem_power_cut.specs.History.{VariableRequest, payloadEntries}
 use Rattle.theorem_power_cut.specs.PowerCut.{LoadsWhatWasPut, LoadsData}
-use Rattle.theorem_power_cut.proofs.Found.{map-size, find}
+use Rattle.theorem_power_cut.proofs.Found.{find}
 use Rattle.theorem_power_cut.proofs.NewItem.{new-size, payload-there, header-typed}
 use Rattle.theorem_power_cut.proofs.Standing.{standing-size}
 use Rattle.theorem_power_cut.proofs.Held.{Known, held, blank}

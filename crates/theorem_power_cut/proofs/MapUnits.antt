@@ -122,16 +122,15 @@ module _ (header old new entries : List ℕ) (header-size : length header ≡ 32
   -- the first n of them: the map is new up to some unit, and old after it
   pub record Reached (j m n : ℕ) : Type 0 where
     pub unit-at : ℕ
-    pub to : unit-at ≤ j + m
     pub image : run (take n (changedUnits j m old new)) (imageAt j) ≡ imageAt unit-at
 
   further : (j m n : ℕ) → Reached (suc j) m n → (k : ℕ) → run (take k (changedUnits j (suc m) old new)) (imageAt j) ≡ run (take n (changedUnits (suc j) m old new)) (imageAt (suc j))
       → Reached j (suc m) k
-  further j m n r k e = record { unit-at = r .unit-at; to = omega (arith, r .to); image = e ∙ r .image }
+  further j m n r k e = record { unit-at = r .unit-at; image = e ∙ r .image }
 
   pub reached : (j m n : ℕ) → j + m ≤ 8 → Reached j m n
   unfolding changedUnits run
-  reached j zero n h = record { unit-at = j; to = omega arith; image = rw (take-nil {A = Unit4} n) }
+  reached j zero n h = record { unit-at = j; image = rw (take-nil {A = Unit4} n) }
   reached j (suc m) n h = by-test (λ k. reached (suc j) m k (omega arith)) n (sameBytes (mapUnit j old) (mapUnit j new)) refl
     where
       rest : List Unit4
@@ -139,7 +138,7 @@ module _ (header old new entries : List ℕ) (header-size : length header ≡ 32
 
       by-test : ((k : ℕ) → Reached (suc j) m k) → (n : ℕ) (same : Bool) → sameBytes (mapUnit j old) (mapUnit j new) ≡ same → Reached j (suc m) n
       by-test next n true e = further j m n (next n) n (rw e (ap (run (take n rest)) (run-unit j (omega arith) true e)))
-      by-test next zero false e = record { unit-at = j; to = omega arith; image = refl }
+      by-test next zero false e = record { unit-at = j; image = refl }
       by-test next (suc n) false e =
           let us = units (mapOffset + 4 * j) (mapUnit j new) in
           let one = length-units-whole (mapOffset + 4 * j) 1 (mapUnit j new) (unit-size j (omega arith)) in

@@ -7,8 +7,8 @@ use Prim.Native.Nat.{ℕ, zero, suc, _+_, _-_, _*_, _≤_}
 use native.Mathlib.Decide.{decLe}
 use native.Mathlib.Nat.{suc-inj}
 use native.Mathlib.Omega.{arith}
-use lib.ListN.{length, take, drop, getD, length-append, length-drop, take-append-drop}
-use lib.Seq.{take-at, getD-take, take-nil, take-all, take-append-le}
+use lib.ListN.{length, take, drop, length-append, length-drop, take-append-drop}
+use lib.Seq.{take-at, take-nil, take-all, take-append-le}
 use borrow.Author.Tests.{eq-eqb}
 use Rattle.flash.specs.Flash.{Unit4, run}
 use Rattle.flash.proofs.Laws.{Bytes, OnlyClears, bytes-run, run-budget}
@@ -32,7 +32,7 @@ use Rattle.theorem_power_cut.specs.PowerCut.{OpeningCut}
 use Rattle.theorem_power_cut.proofs.Found.{map-size}
 use Rattle.theorem_power_cut.proofs.MapUnits.{splice, length-splice, reached}
 use Rattle.theorem_power_cut.proofs.OpenedPage.{header-size, states-size, same-size, map-first, map-second, first-size, before, first, run-first, between, second, run-opening}
-use Rattle.theorem_power_cut.proofs.AtHand.{field-front}
+use Rattle.theorem_power_cut.proofs.AtHand.{field-front, version-front}
 use Rattle.theorem_power_cut.proofs.Headers.{HeaderOpens, opens-facts, opens-of, header-opens, image-opens}
 
 -- ---- a mix of states that agree after an entry
@@ -107,9 +107,7 @@ module _ (image : List ℕ) (size : length image ≡ 4096) (bytes : Bytes image)
 
     same-version : versionOf cut ≡ versionOf image
     same-version =
-        sym (getD-take 32 cut 8 0 (omega arith))
-        ∙ ap (λ (front : List ℕ). getD front 8 0) (take-at head (mid ++ tail) 32 head-size)
-        ∙ getD-take 32 image 8 0 (omega arith)
+        version-front head (mid ++ tail) head-size ∙ sym (version-front head (mapOf image ++ tail) head-size) ∙ ap versionOf (sym (image-parts image))
 
     module _ (reads : openedStates (statesOf mid) es ≡ openedStates old es) (keeps : keptFrom zero zero (statesOf mid) es ≡ keptFrom zero zero old es)
         (spare-same : drop 126 (unpack mid) ≡ spare) (cut-bytes : Bytes cut) where

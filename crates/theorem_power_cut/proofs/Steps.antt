@@ -1,7 +1,7 @@
 -- One more append or copy on a page that is held: done, the page is held again; cut, it opens.
 --
 -- In order: an erased page refuses; the header of a cut write; a write cut after n units; a write that is done.
-use mathlib.Core.Path.{_≡_, refl, sym, ap, ap₂, _∙_, subst}
+use mathlib.Core.Path.{_≡_, sym, ap, ap₂, _∙_, subst}
 use mathlib.Core.Bool.{cond, false≢true}
 use mathlib.Core.List.{List, [], _∷_, _++_}
 use Prim.Native.Nat.{ℕ, suc, _+_, _-_, _*_, _≤_, _<_}

@@ -176,7 +176,7 @@ count-closed (closed-erased entry c) = let rest = count-closed c in omega arith
 count-closed (closed-header entry w c) = let rest = count-closed c in omega arith
 count-closed (closed-covered entry c) = let rest = count-closed c in omega arith
 
-pub count-empties : (s : EntryMapState) (n : ℕ) → sameState s Empty ≡ false → countIn s (replicate n Empty) ≡ 0
+pub count-none : (s t : EntryMapState) (n : ℕ) → sameState s t ≡ false → countIn s (replicate n t) ≡ 0
 unfolding countIn
-count-empties s zero e = refl
-count-empties s (suc n) e = rw (e, count-empties s n e)
+count-none s t zero e = refl
+count-none s t (suc n) e = rw (e, count-none s t n e)

@@ -172,9 +172,9 @@ length-without index (place ∷ places) = by-test (eqb (place .index) index) (le
     by-test true r = omega arith
     by-test false r = omega arith
 
-pub zero-places : (n : ℕ) → every placeZero (replicate n noItem) ≡ true
-zero-places zero = refl
-zero-places (suc n) = zero-places n
+pub every-replicate : {A : Type 0} (test : A → Bool) (n : ℕ) (x : A) → test x ≡ true → every test (replicate n x) ≡ true
+every-replicate test zero x h = refl
+every-replicate test (suc n) x h = rw h (every-replicate test n x h)
 
 module _ (page : ThinPage) (index span : ℕ) (code : AsInCode page) (f : Fit page) (known : isUninitialized (page .state) ≡ false)
     (room : index + span ≤ 126) (all : allWritten (page .map) index span ≡ true) where
@@ -199,7 +199,7 @@ module _ (page : ThinPage) (index span : ℕ) (code : AsInCode page) (f : Fit pa
         len-fits = omega (arith, erased-len, f .written-fits);
         written-fits = omega (arith, f .written-fits);
         listed-fit = rw (take-append-seam kept (replicate (126 - length kept) noItem)) (every-without placeFits index (inUse page) (f .listed-fit));
-        behind-zero = rw (drop-append-seam kept (replicate (126 - length kept) noItem)) (zero-places (126 - length kept));
+        behind-zero = rw (drop-append-seam kept (replicate (126 - length kept) noItem)) (every-replicate placeZero (126 - length kept) noItem refl);
         blank-fits = known-fits (withErased page index span) known;
       })
 

@@ -31,9 +31,6 @@ loop-again c =
           (sym (run-changed unit (8 - suc unit) (args .old) (args .new) (at .loop .image)) ∙ (rw (left, add-one unit) at (at .loop .inv .2))),
     )
 
-same-length : tie.Need-same-length Inv-loop μ-loop
-same-length c = c .before .loop .inv .1
-
 returns : tie.Need-returns Inv-loop μ-loop
 unfolding changedUnits run
 returns c =
@@ -48,5 +45,5 @@ program-changes-spec =
     μ-loop
     (λ c. search needs) (λ c κs. search needs) (λ c. search needs) (λ c. search needs)
     loop-again
-    same-length
+    (λ c. c .before .loop .inv .1)
     returns)

@@ -7,22 +7,16 @@ use Prim.Native.Nat.{ℕ, _+_, _-_}
 use native.Mathlib.Omega.{arith}
 use borrow.Author.Needs.{needs}
 use borrow.Author.Tests.{lt-ltb, le-ltb, eq-eqb, ne-eqb, not-true, not-false}
-use lib.ListN.{length, drop, length-drop}
+use lib.ListN.{length, drop}
 use Rattle.flash.specs.Flash.{allOnes}
 use Rattle.sector.specs.declared.Kind.{Kind}
 use Rattle.sector.specs.Item.{crcRight, loads}
 use Rattle.sector.specs.Layout.{entriesOf, spanOf}
 use Rattle.sector.specs.Types.{kindOf}
 use Rattle.opening_reading.specs.Reading.{WrongSpan, isPayload, covered, wrongSpan, headerRefusal, payloadRefusal}
-use Rattle.sector.proofs.Laws.{length-entriesOf}
+use Rattle.opening_reading.proofs.Entries.{entries-left}
 use Rattle.opening_reading.proofs.written_verdict.Statement.{statement}
 use Rattle.opening_reading.proofs.written_verdict.Tie as tie
-
--- the entries after this one
-entries-left : (image : List ℕ) (index : ℕ) → length (drop (index + 1) (entriesOf image)) ≡ 125 - index
-entries-left image index =
-    let all = length-entriesOf image in
-    length-drop (index + 1) (entriesOf image) ∙ omega arith
 
 bytes-there : (c : tie.Else1) → allOnes (c .before .before .before .entry-at .result) ≡ false
 bytes-there c = sym (c .before .all-ones .ensures) ∙ c .if1 .left

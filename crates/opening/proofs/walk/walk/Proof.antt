@@ -40,24 +40,6 @@ loop-holds c =
     let map = start .args .map in
     (search needs, marked-start image map (long start) (bytes-of-array map _ (start .good .1 .0 .1 .1)), heads-start image map, rw (c .empty .ensures) (listed-start image map))
 
-marked-by-requires : tie.Need-marked-by-requires Inv-loop μ-loop
-marked-by-requires c κs = fits c
-
-listed-by-requires : tie.Need-listed-by-requires Inv-loop μ-loop
-listed-by-requires c κs =
-    let within = c .before .before .before .before .loop .inv .3 .within in
-    search needs
-
-add-index-2 : tie.Need-add-index-2 Inv-loop μ-loop
-add-index-2 c =
-    let steps = c .steps-over .ensures in
-    omega (arith, fits (c .before .before .before .before))
-
-loop-less : tie.Need-loop-less Inv-loop μ-loop
-loop-less c =
-    let steps = c .steps-over .ensures in
-    omega (arith, fits (c .before .before .before .before))
-
 loop-again : tie.Need-loop-again Inv-loop μ-loop
 loop-again c =
     let listed = c .before in
@@ -99,11 +81,11 @@ walk-spec =
     (λ c κs. search needs)
     loop-holds
     (λ c κs. search needs)
-    marked-by-requires
+    (λ c κs. fits c)
     (λ c κs. search needs) (λ c. search needs)
-    listed-by-requires
+    (λ c κs. let within = c .before .before .before .before .loop .inv .3 .within in search needs)
     (λ c. search needs) (λ c κs. search needs)
-    add-index-2
-    loop-less
+    (λ c. let steps = c .steps-over .ensures in omega (arith, fits (c .before .before .before .before)))
+    (λ c. let steps = c .steps-over .ensures in omega (arith, fits (c .before .before .before .before)))
     loop-again
     returns)
