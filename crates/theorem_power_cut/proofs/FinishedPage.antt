@@ -1,6 +1,6 @@
 -- The page that initialise finishes: it stands, with no item on it, its header opens, and opening reads the record that initialise handed back.
 --
--- In order: the finished page; the one record that is fit and Uninitialized; any call that is done.
+-- In order: the finished page; a record that is fit and Uninitialized; any call that is done.
 use mathlib.Core.Path.{_≡_, refl, sym, ap, ap₂, _∙_, subst}
 use mathlib.Core.Bool.{true, not, and-eq-true-iff}
 use mathlib.Core.List.{List, [], _∷_, _++_}
@@ -20,8 +20,7 @@ use Rattle.page.specs.Writing.{answered, outcome, stops}
 use Rattle.page.proofs.Checks.{accepted-usable}
 use Rattle.page.proofs.Laws.{fit-clauses}
 use Rattle.sector.specs.declared.Answer.the-variants.{Done, CorruptedData}
-use Rattle.sector.specs.declared.PageState.{PageState}
-use Rattle.sector.specs.declared.PageState.the-variants.{Uninitialized, Active, Full, Freeing, Corrupt, Invalid}
+use Rattle.sector.specs.declared.PageState.the-variants.{Active}
 use Rattle.sector.specs.Header.{stateOfWord, headerCrc, headerBody, headerBytes, isUninitialized}
 use Rattle.sector.specs.Item.{crcStart}
 use Rattle.sector.specs.Layout.{chunks, stateWord, sequenceOf, versionOf, storedHeaderCrc}
@@ -104,15 +103,7 @@ module _ (sequence : ℕ) (small : sequence < 0x1_0000_0000) where
         page-is = rw (state-read, sequence-read, version-read, crc-read);
       }
 
--- ---- the record that is fit and Uninitialized
-
-state-is : (state : PageState) → isUninitialized state ≡ true → state ≡ Uninitialized
-state-is Uninitialized e = refl
-state-is Active e = cc
-state-is Full e = cc
-state-is Freeing e = cc
-state-is Corrupt e = cc
-state-is Invalid e = cc
+-- ---- a record that is fit and Uninitialized
 
 zero-place : (place : Listed) → placeZero place ≡ true → place ≡ noItem
 zero-place place e =
@@ -125,40 +116,27 @@ zero-list (place ∷ list) e =
     let both = and-eq-true-iff (placeZero place) (every placeZero list) .0 e in
     ap₂ (λ (first : Listed) (rest : List Listed). first ∷ rest) (zero-place place (both .0)) (zero-list list (both .1))
 
-module _ (page : ThinPage) (code : AsInCode page) (fit : fitToUse page ≡ true) (state : page .state ≡ Uninitialized) where
-  blank-fit : isBlank page ≡ true
-  blank-fit = rw state at (fit-clauses page fit .blank-fits)
-
-  pub uninitialized-is : page ≡ uninitialized
-  uninitialized-is =
-      let used = and-eq-true-iff (eqb (page .used) 0) _ .0 blank-fit in
-      let erased = and-eq-true-iff (eqb (page .erased) 0) _ .0 (used .1) in
-      let sequence = and-eq-true-iff (eqb (page .sequence) 0) _ .0 (erased .1) in
-      let version = and-eq-true-iff (eqb (page .version) 0) _ .0 (sequence .1) in
-      let crc = and-eq-true-iff (eqb (page .crc) 0) _ .0 (version .1) in
-      let len = and-eq-true-iff (eqb (page .len) 0) (allOnes (page .map)) .0 (crc .1) in
-      let len-is = eqb-true (page .len) 0 (len .0) in
-      let list-is : page .list ≡ replicate 126 noItem =
-      zero-list (page .list) (rw len-is at (fit-clauses page fit .behind-zero)) ∙ ap (λ (n : ℕ). replicate n noItem) (code .2) in
-      let map-is : page .map ≡ replicate 32 0xFF =
-      replicate-all-ones (page .map) (len .1) ∙ ap (λ (n : ℕ). replicate {A = ℕ} n 0xFF) (code .0) in
-      let sequence-is = eqb-true (page .sequence) 0 (sequence .0) in
-      let version-is = eqb-true (page .version) 0 (version .0) in
-      let crc-is = eqb-true (page .crc) 0 (crc .0) in
-      let used-is = eqb-true (page .used) 0 (used .0) in
-      let erased-is = eqb-true (page .erased) 0 (erased .0) in
-      let fields : record {
-        state = page .state;
-        sequence = page .sequence;
-        version = page .version;
-        crc = page .crc;
-        map = page .map;
-        used = page .used;
-        erased = page .erased;
-        len = page .len;
-        list = page .list;
-      } ≡ uninitialized = rw (state, sequence-is, version-is, crc-is, map-is, used-is, erased-is, len-is, list-is) in
-      fields
+-- initialised, it is what the Uninitialized record becomes
+initialised-blank : (page : ThinPage) (sequence : ℕ) → AsInCode page → fitToUse page ≡ true → isUninitialized (page .state) ≡ true
+    → initialised uninitialized sequence ≡ initialised page sequence
+unfolding initialised
+initialised-blank page sequence code fit none =
+    let f = fit-clauses page fit in
+    let blank : isBlank page ≡ true = (rw none at (f .blank-fits)) in
+    let used = and-eq-true-iff (eqb (page .used) 0) _ .0 blank in
+    let erased = and-eq-true-iff (eqb (page .erased) 0) _ .0 (used .1) in
+    let sequence = and-eq-true-iff (eqb (page .sequence) 0) _ .0 (erased .1) in
+    let version = and-eq-true-iff (eqb (page .version) 0) _ .0 (sequence .1) in
+    let crc = and-eq-true-iff (eqb (page .crc) 0) _ .0 (version .1) in
+    let len = and-eq-true-iff (eqb (page .len) 0) (allOnes (page .map)) .0 (crc .1) in
+    let len-is = eqb-true (page .len) 0 (len .0) in
+    rw (
+      replicate-all-ones (page .map) (len .1) ∙ ap (λ (n : ℕ). replicate {A = ℕ} n 0xFF) (code .0),
+      eqb-true (page .used) 0 (used .0),
+      eqb-true (page .erased) 0 (erased .0),
+      zero-list (page .list) (rw len-is at (f .behind-zero)) ∙ ap (λ (n : ℕ). replicate n noItem) (code .2),
+      len-is,
+    )
 
 -- ---- any call that is done
 
@@ -170,12 +148,11 @@ finished-page-opens image page sequence n small code d =
     let stops-not = stops n (initialisePlan sequence) in
     let ok = begins-accepted checks refl stops-not page new (inl d) in
     let usable = accepted-usable image page (not (isUninitialized (page .state))) ((not (allOnes image), CorruptedData) ∷ []) ok in
-    let same = uninitialized-is page code (usable .fit) (state-is (page .state) (not-false _ (usable .state))) in
+    let record-is = initialised-blank page sequence code (usable .fit) (not-false _ (usable .state)) in
     let enough : length (initialisePlan sequence) ≤ n = ltb-false n (length (initialisePlan sequence)) (done-whole checks refl stops-not page new d) in
     let h = finished-held sequence small in
     let after : initialiseImage image page sequence n ≡ finished sequence small =
     same-image image page sequence n ok ∙ whole sequence n enough ∙ ap (initialiseImage (replicate 4096 0xFF) uninitialized sequence) (plan-long sequence) in
-    let record-is : initialised uninitialized sequence ≡ new = ap (λ (page : ThinPage). initialised page sequence) (sym same) in
     let answer-is : outcome checks stops-not page new ≡ answered Done new = rw (ok, done-whole checks refl stops-not page new d) in (
       ap opening after ∙ held-opening h ∙ ap (answered Done) record-is ∙ sym answer-is,
       ap keptItems after ∙ standing-kept (h .standing),
