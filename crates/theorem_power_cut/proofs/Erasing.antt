@@ -33,15 +33,11 @@ use Rattle.theorem_power_cut.proofs.AtHand.{pageOf}
 
 -- ---- without an index
 
-without-below : {items : List Item} {low high : ℕ} (index : ℕ) → high ≤ index → Indices low high items → withoutItem index items ≡ items
-without-below index h indices-nil = refl
-without-below index h (indices-cons {items} i entries l u rest) =
-    rw (ne-eqb i index (λ e. omega arith)) (ap (λ (others : List Item). item i entries ∷ others) (without-below index h rest))
-
-without-above : {items : List Item} {low high : ℕ} (index : ℕ) → index < low → Indices low high items → withoutItem index items ≡ items
-without-above index h indices-nil = refl
-without-above index h (indices-cons {items} i entries l u rest) =
-    rw (ne-eqb i index (λ e. omega arith)) (ap (λ (others : List Item). item i entries ∷ others) (without-above index h rest))
+-- where no item has it
+without-none : {items : List Item} {low high : ℕ} (index : ℕ) → ((i : ℕ) → low ≤ i → i < high → i ≡ index → ⊥) → Indices low high items → withoutItem index items ≡ items
+without-none index apart indices-nil = refl
+without-none index apart (indices-cons i entries l u rest) =
+    rw (ne-eqb i index (apart i l u)) (ap (λ (others : List Item). item i entries ∷ others) (without-none index apart rest))
 
 without-append : (index : ℕ) (xs ys : List Item) → withoutItem index (xs ++ ys) ≡ withoutItem index xs ++ withoutItem index ys
 without-append index [] ys = refl
@@ -59,8 +55,8 @@ pub without-place : {j : ℕ} {group : Entries} {before after : List Item} {fron
 without-place {j} {group} {before} {after} p =
     without-append j before (item j group ∷ after)
     ∙ ap₂ (λ (xs ys : List Item). xs ++ ys)
-    (without-below j (omega arith) (indices-before p))
-    (rw (eq-eqb j j refl) (without-above j (omega (arith, ap length (p .header-first))) (indices-after p)))
+    (without-none j (λ i l u e. omega arith) (indices-before p))
+    (rw (eq-eqb j j refl) (without-none j (λ i l u e. omega (arith, ap length (p .header-first))) (indices-after p)))
 
 -- the list without an index is the list of the items without it
 listed-without : (index : ℕ) (items : List Item) → without index (listedItems items) ≡ listedItems (withoutItem index items)

@@ -85,13 +85,6 @@ cut-2 : (sequence : ℕ) → opening (initialiseImage blank uninitialized sequen
 unfolding opening headerVerdictOf stateOfWord headerBytes
 cut-2 sequence = ap opening (stopped sequence 2)
 
--- where the bytes are the same as after the third unit, so is the page
-same-as-3 : (sequence n : ℕ)
-    → take (4 * n) (headerBytes sequence) ++ replicate (4096 - length (take (4 * n) (headerBytes sequence))) 0xFF
-    ≡ take 12 (headerBytes sequence) ++ replicate (4096 - length (take 12 (headerBytes sequence))) 0xFF
-    → initialiseImage blank uninitialized sequence n ≡ initialiseImage blank uninitialized sequence 3
-same-as-3 sequence n e = stopped sequence n ∙ e ∙ sym (stopped sequence 3)
-
 -- a state and a version, and the CRC reads 0xFFFFFFFF
 module _ (sequence : ℕ) where
   abbrev crc : ℕ
@@ -137,10 +130,10 @@ blank-cut sequence zero = inl (ap opening (stopped sequence 0) ∙ blank-opening
 blank-cut sequence (suc zero) = inr (inl (cut-1 sequence))
 blank-cut sequence (suc (suc zero)) = inr (inl (cut-2 sequence))
 blank-cut sequence (suc (suc (suc zero))) = cut-3 sequence
-blank-cut sequence (suc (suc (suc (suc zero)))) = move sequence 4 3 (same-as-3 sequence 4 refl) (cut-3 sequence)
-blank-cut sequence (suc (suc (suc (suc (suc zero))))) = move sequence 5 3 (same-as-3 sequence 5 refl) (cut-3 sequence)
-blank-cut sequence (suc (suc (suc (suc (suc (suc zero)))))) = move sequence 6 3 (same-as-3 sequence 6 refl) (cut-3 sequence)
-blank-cut sequence (suc (suc (suc (suc (suc (suc (suc zero))))))) = move sequence 7 3 (same-as-3 sequence 7 refl) (cut-3 sequence)
+blank-cut sequence (suc (suc (suc (suc zero)))) = move sequence 4 3 (stopped sequence 4 ∙ sym (stopped sequence 3)) (cut-3 sequence)
+blank-cut sequence (suc (suc (suc (suc (suc zero))))) = move sequence 5 3 (stopped sequence 5 ∙ sym (stopped sequence 3)) (cut-3 sequence)
+blank-cut sequence (suc (suc (suc (suc (suc (suc zero)))))) = move sequence 6 3 (stopped sequence 6 ∙ sym (stopped sequence 3)) (cut-3 sequence)
+blank-cut sequence (suc (suc (suc (suc (suc (suc (suc zero))))))) = move sequence 7 3 (stopped sequence 7 ∙ sym (stopped sequence 3)) (cut-3 sequence)
 blank-cut sequence (suc (suc (suc (suc (suc (suc (suc (suc n)))))))) =
     inr (inr (whole sequence (suc (suc (suc (suc (suc (suc (suc (suc n)))))))) (omega (arith, plan-long sequence))))
 

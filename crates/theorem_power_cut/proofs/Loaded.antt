@@ -16,11 +16,10 @@ use Rattle.sector.specs.declared.Answer.the-variants.{Done}
 use Rattle.sector.specs.Answers.{accepted}
 use Rattle.sector.specs.Item.{loads}
 use Rattle.sector.specs.Layout.{entryAddress, entryAt, entriesOf, spanOf, sizeOf}
-use Rattle.sector.specs.Types.{itemType, hasPayload, sanitized}
+use Rattle.sector.specs.Types.{sanitized}
 use Rattle.sector.proofs.Laws.{length-chunks, length-entriesOf}
 use Rattle.call_load.specs.Load.{loadItem}
 use Rattle.call_load_data.specs.Payload.{roundedUp, dataChecks, dataAnswer, dataOutput}
-use Rattle.call_append.specs.declared.Variable.{Variable}
 use Rattle.call_append.specs.Append.{spanFor, variableHeader}
 use Rattle.opening_reading.specs.declared.Reason.the-variants.{SizeTooBig, PayloadCrcWrong}
 use Rattle.opening_reading.specs.Reading.{firstRule, isPayload, covered, joined, sizeTooBig, payloadCrcWrong, payloadRefusal, Item, item}
@@ -28,7 +27,7 @@ use Rattle.opening_reading.proofs.Entries.{take-joined, entries-from}
 use Rattle.opening_reading.proofs.Verdicts.{Entries, header-loads, whole-span}
 use Rattle.opening.specs.Opening.{headerOf}
 use Rattle.theorem_reopening.proofs.KeptItem.{WholeAt}
-use Rattle.theorem_power_cut.specs.History.{VariableRequest, payloadEntries}
+use Rattle.theorem_power_cut.specs.History.{payloadEntries}
 use Rattle.theorem_power_cut.specs.PowerCut.{LoadsWhatWasPut, LoadsData}
 use Rattle.theorem_power_cut.proofs.Found.{find}
 use Rattle.theorem_power_cut.proofs.NewItem.{new-size, payload-there, header-typed}
@@ -127,26 +126,6 @@ module _ {index : ℕ} {group : Entries} (image : List ℕ) (size : length image
 
 -- ---- every history
 
--- data that was appended
-data-loads : {index : ℕ} {group : Entries} (image : List ℕ) (size : length image ≡ 4096) (found : WholeAt index group (entriesOf image))
-    (request : Variable) (payload : List ℕ) (ok : VariableRequest request payload) → hasPayload (itemType (request .kind)) ≡ true
-    → variableHeader request payload ≡ found .header → payloadEntries (spanFor (length payload) - 1) payload ≡ found .new
-    → (output : List ℕ) → roundedUp (length payload) ≤ length output
-    → (dataAnswer image index (length output) ≡ record { answer = Done; size = length payload })
-    × (take (length payload) (dataOutput image index output) ≡ payload)
-data-loads {index} image size found request payload ok typed header new output room =
-    let k = spanFor (length payload) - 1 in
-    let counted = length-chunks k (payload ++ replicate (32 * k - length payload) 0xFF) in
-    let short : spanFor (length payload) ≤ 126 = omega (arith, fits image size found, ap length new, counted) in
-    let long : sizeOf (found .header) ≡ length payload = rw (← header) (new-size request payload ok typed short) in
-    let is-data : isPayload (found .header) ≡ true = rw (← header) (header-typed request payload ok typed short) in
-    let enough : roundedUp (sizeOf (found .header)) ≤ length output = rw long room in (
-      answers image size found is-data output enough ∙ ap (λ (n : ℕ). record { answer = Done; size = n }) long,
-      ap (λ (n : ℕ). take n (dataOutput image index output)) (sym long)
-          ∙ hands-over image size found is-data output enough
-          ∙ rw (long, ← new) (payload-there request payload ok typed short),
-    )
-
 known-size : {image : List ℕ} {page : ThinPage} {items : List Item} → Known image page items → length image ≡ 4096
 known-size (held h) = standing-size (h .standing)
 known-size (blank i p e) = rw (i, length-replicate)
@@ -164,4 +143,13 @@ loads-data image page items h request payload ok index typed m output room =
     let found = find image size (subst (List·Memᴰ (item index entries)) (sym (finds-what-was-put image page items h .0)) m) in
     let header : variableHeader request payload ≡ found .header = head-eq-of-cons-eq (found .header-first) in
     let new : payloadEntries k payload ≡ found .new = tail-eq-of-cons-eq (found .header-first) in
-    data-loads image size found request payload ok typed header new output room
+    let counted = length-chunks k (payload ++ replicate (32 * k - length payload) 0xFF) in
+    let short : spanFor (length payload) ≤ 126 = omega (arith, fits image size found, ap length new, counted) in
+    let long : sizeOf (found .header) ≡ length payload = rw (← header) (new-size request payload ok typed short) in
+    let is-data : isPayload (found .header) ≡ true = rw (← header) (header-typed request payload ok typed short) in
+    let enough : roundedUp (sizeOf (found .header)) ≤ length output = rw long room in (
+      answers image size found is-data output enough ∙ ap (λ (n : ℕ). record { answer = Done; size = n }) long,
+      ap (λ (n : ℕ). take n (dataOutput image index output)) (sym long)
+          ∙ hands-over image size found is-data output enough
+          ∙ rw (long, ← new) (payload-there request payload ok typed short),
+    )
