@@ -52,7 +52,7 @@ unfolding firstNot
 first-step test n more rest e = rw e
 
 module _ (test : ℕ → Bool) (n more rest : ℕ) (e : more ≡ rest + 1) where
-  -- where the test holds, what is behind n decides
+  -- where the test holds, what comes after n decides
   pub first-pass : test n ≡ true → firstNot test n more ≡ firstNot test (n + 1) rest
   first-pass t = rw t at (first-step test n more rest (e ∙ add-one rest))
 

@@ -1,4 +1,4 @@
--- `count_units` meets its contract: the append is stopped at every n passed, so what is behind them decides.
+-- `count_units` meets its contract: the append is stopped at every n passed, so what comes after them decides.
 use mathlib.Core.Path.{_≡_, refl, sym, ap, _∙_}
 use mathlib.Core.Bool.{Bool}
 use Prim.Native.Nat.{ℕ, _+_, _-_, _≤_}
@@ -30,9 +30,6 @@ number : (c : tie.After-number-of Inv-loop μ-loop)
 number c =
     c .number-of .ensures ∙ ap (λ (o : Outcome). numberOf (o .answer)) (c .before .before .append-item .ensures .0)
 
-loop-holds : tie.Need-loop-holds Inv-loop μ-loop
-loop-holds c = (search needs, refl)
-
 returns : tie.Need-returns Inv-loop μ-loop
 returns c =
     let at = c .before .before .before .before .before .before .before .before in
@@ -60,12 +57,9 @@ count-units-spec =
     (tie.spec
     Inv-loop
     μ-loop
-    loop-holds
-    (λ c. search needs)
-    (λ c κs. search needs)
-    (λ c κs. search needs)
+    (λ c. (search needs, refl))
+    (λ c. search needs) (λ c κs. search needs) (λ c κs. search needs)
     returns
-    (λ c. search needs)
-    (λ c. search needs)
+    (λ c. search needs) (λ c. search needs)
     loop-again
     returns-2)

@@ -8,10 +8,4 @@ returns c = rw (c .before .before .open-page .ensures .0, c .before .before .ope
 
 pub cut-after-spec : {M : Type 1} → statement M
 cut-after-spec =
-    tie.close
-    (tie.spec
-    (λ c. search needs)
-    (λ c κs. search needs)
-    (λ c. search needs)
-    (λ c κs. search needs)
-    returns)
+    tie.close (tie.spec (λ c. search needs) (λ c κs. search needs) (λ c. search needs) (λ c κs. search needs) returns)

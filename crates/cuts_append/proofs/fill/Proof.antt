@@ -16,10 +16,6 @@ Inv-loop payload₀ i₀ payload i = (i ≤ length payload₀) × (length payloa
 abbrev μ-loop : tie.MeasureT-loop
 μ-loop payload₀ i₀ payload i = length payload₀ - i
 
-loop-holds : tie.Need-loop-holds Inv-loop μ-loop
-unfolding curve
-loop-holds c = (search needs, search needs, refl)
-
 loop-again : tie.Need-loop-again Inv-loop μ-loop
 unfolding curve
 loop-again c =
@@ -37,16 +33,14 @@ returns c =
     sym (take-all (l .i) (l .payload) (omega arith)) ∙ l .inv .2 ∙ ap curve all
 
 pub fill-spec : {M : Type 1} → statement M
+unfolding curve
 fill-spec =
     tie.close
     (tie.spec
     Inv-loop
     μ-loop
-    loop-holds
-    (λ c. search needs)
-    (λ c. search needs)
-    (λ c. search needs)
-    (λ c. search needs)
+    (λ c. (search needs, search needs, refl))
+    (λ c. search needs) (λ c. search needs) (λ c. search needs) (λ c. search needs)
     loop-again
     (λ c. search needs)
     returns)

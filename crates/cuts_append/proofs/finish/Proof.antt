@@ -3,8 +3,9 @@ use borrow.Author.Needs.{needs}
 use Rattle.cuts_append.proofs.finish.Statement.{statement}
 use Rattle.cuts_append.proofs.finish.Tie as tie
 
-returns : tie.Need-returns
-returns c = rw (c .before .before .append-item .ensures .0, c .before .before .append-item .ensures .1)
-
 pub finish-spec : {M : Type 1} → statement M
-finish-spec = tie.close (tie.spec (λ c. search needs) (λ c κs. search needs) returns)
+finish-spec =
+    tie.close
+    (tie.spec
+    (λ c. search needs) (λ c κs. search needs)
+    (λ c. rw (c .before .before .append-item .ensures .0, c .before .before .append-item .ensures .1)))

@@ -42,9 +42,6 @@ tested c t e =
     same-of (wanted .result) (next .result) _ _ (c .same-found .result) t
     (wanted .ensures) (next .ensures) (c .same-found .ensures) e
 
-loop-holds : tie.Need-loop-holds Inv-loop μ-loop
-loop-holds c = (search needs, (λ h. h), alike-one _ _, refl)
-
 returns : tie.Need-returns Inv-loop μ-loop
 returns c =
     let at = c .before .before .before .before in
@@ -86,12 +83,9 @@ last-alike-spec =
     Inv-loop
     μ-loop
     (λ c κs. search needs)
-    loop-holds
-    (λ c. search needs)
-    (λ c κs. search needs)
-    (λ c κs. search needs)
+    (λ c. (search needs, (λ h. h), alike-one _ _, refl))
+    (λ c. search needs) (λ c κs. search needs) (λ c κs. search needs)
     returns
-    (λ c. search needs)
-    (λ c. search needs)
+    (λ c. search needs) (λ c. search needs)
     loop-again
     returns-2)

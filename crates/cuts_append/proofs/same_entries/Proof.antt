@@ -11,9 +11,6 @@ use Rattle.cuts_append.proofs.same_entries.Tie as tie
 part-length : (n : ℕ) → (64 + 32 * n) - 64 ≡ 32 * n
 part-length n = omega arith
 
-returns : tie.Need-returns
-returns c = rw (lt-leb _ _ (c .if1 .taken))
-
 returns-2 : tie.Need-returns-2
 returns-2 c = rw (le-leb _ _ (c .before .before .before .before .before .if1 .left), ← part-length (c .before .before .before .before .before .before .args .count)) (c .same .ensures)
 
@@ -21,14 +18,7 @@ pub same-entries-spec : {M : Type 1} → statement M
 same-entries-spec =
     tie.close
     (tie.spec
-    returns
-    (λ c. search needs)
-    (λ c. search needs)
-    (λ c. search needs)
-    (λ c. search needs)
-    (λ c. search needs)
-    (λ c. search needs)
-    (λ c. search needs)
-    (λ c. search needs)
-    (λ c κs. search needs)
+    (λ c. rw (lt-leb _ _ (c .if1 .taken)))
+    (λ c. search needs) (λ c. search needs) (λ c. search needs) (λ c. search needs) (λ c. search needs)
+    (λ c. search needs) (λ c. search needs) (λ c. search needs) (λ c κs. search needs)
     returns-2)

@@ -5,9 +5,6 @@ use borrow.Author.Tests.{not-true, not-false}
 use Rattle.cuts_append.proofs.same_sector.Statement.{statement}
 use Rattle.cuts_append.proofs.same_sector.Tie as tie
 
-returns : tie.Need-returns
-returns c = rw (sym (c .before .same-items .ensures) ∙ not-true _ (c .if1 .taken))
-
 returns-2 : tie.Need-returns-2
 returns-2 c = rw (sym (c .before .before .before .before .before .same-items .ensures) ∙ not-false _ (c .before .before .before .before .if1 .left), ← c .before .get-next-free-entry .ensures) (c .same-entries .ensures)
 
@@ -16,7 +13,6 @@ same-sector-spec =
     tie.close
     (tie.spec
     (λ c κs. search needs)
-    returns
-    (λ c κs. search needs)
-    (λ c κs. search needs)
+    (λ c. rw (sym (c .before .same-items .ensures) ∙ not-true _ (c .if1 .taken)))
+    (λ c κs. search needs) (λ c κs. search needs)
     returns-2)
