@@ -1,6 +1,6 @@
 // What the calls that read bytes give at both sides of each edge, by numbers: a line for an item, and one for what its reading gives.
 //
-// Answers are 01's numbers; the type byte that a mismatch carries stands behind its 8.
+// Answers are 01's numbers; the type byte that a mismatch carries stands after its 8.
 mod images;
 mod loading;
 mod payloads;

@@ -4,13 +4,7 @@ use crate::images;
 use crate::loading;
 
 fn count_filled(output: &[u8; 100]) -> u64 {
-    let mut count: u64 = 0;
-    for k in 0..100usize {
-        if output[k] == images::FILLED {
-            count += 1;
-        }
-    }
-    count
+    test_print::count_equal(output, images::FILLED)
 }
 
 fn print_given(answer: sector::Answer, room: usize, size: usize, filled: u64) {
@@ -57,28 +51,40 @@ fn print_item(at: usize, index: usize, over: u8, kind: u8, span: u8, size: u8, r
     print_page(&image, index, room);
 }
 
+// The first entry, by the type byte that its CRC is made over, its type, span and size.
+fn print_typed(over: u8, kind: u8, span: u8, size: u8) {
+    print_item(0, 0, over, kind, span, size, 100);
+}
+
 pub(crate) fn print_types() {
-    print_item(0, 0, 0x01, 0x01, 1, 0, 100);
-    print_item(0, 0, 0x01, 0x11, 1, 0, 100);
-    print_item(0, 0, 0x48, 0x48, 1, 0, 100);
-    print_item(0, 0, 0xFF, 0xFF, 1, 0, 100);
-    print_item(0, 0, 0xFF, 0x05, 1, 0, 100);
-    print_item(0, 0, 0x05, 0x05, 1, 0, 100);
-    print_item(0, 0, 0x21, 0x21, 2, 4, 100);
-    print_item(0, 0, 0x41, 0x41, 2, 4, 100);
-    print_item(0, 0, 0x42, 0x42, 2, 4, 100);
-    print_item(0, 0, 0x21, 0x41, 2, 4, 100);
+    print_typed(0x01, 0x01, 1, 0);
+    print_typed(0x01, 0x11, 1, 0);
+    print_typed(0x48, 0x48, 1, 0);
+    print_typed(0xFF, 0xFF, 1, 0);
+    print_typed(0xFF, 0x05, 1, 0);
+    print_typed(0x05, 0x05, 1, 0);
+    print_typed(0x21, 0x21, 2, 4);
+    print_typed(0x41, 0x41, 2, 4);
+    print_typed(0x42, 0x42, 2, 4);
+    print_typed(0x21, 0x41, 2, 4);
+}
+
+// Data in the first entry, by its span and size, read into so much room.
+fn print_sized(span: u8, size: u8, room: usize)
+    requires { ⌜ room ≤ 100 ⌝ }
+{
+    print_item(0, 0, 0x21, 0x21, span, size, room);
 }
 
 pub(crate) fn print_sizes() {
-    print_item(0, 0, 0x21, 0x21, 0, 0, 100);
-    print_item(0, 0, 0x21, 0x21, 1, 0, 0);
-    print_item(0, 0, 0x21, 0x21, 1, 1, 100);
-    print_item(0, 0, 0x21, 0x21, 3, 64, 100);
-    print_item(0, 0, 0x21, 0x21, 3, 65, 100);
-    print_item(0, 0, 0x21, 0x21, 3, 33, 36);
-    print_item(0, 0, 0x21, 0x21, 3, 33, 35);
-    print_item(0, 0, 0x21, 0x21, 3, 33, 100);
+    print_sized(0, 0, 100);
+    print_sized(1, 0, 0);
+    print_sized(1, 1, 100);
+    print_sized(3, 64, 100);
+    print_sized(3, 65, 100);
+    print_sized(3, 33, 36);
+    print_sized(3, 33, 35);
+    print_sized(3, 33, 100);
 }
 
 pub(crate) fn print_places() {

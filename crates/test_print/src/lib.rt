@@ -1,6 +1,6 @@
 // Standard output: text, numbers, bytes and answers, for the programs.
 //
-// An answer is 01's number; the type byte that a mismatch carries stands behind its 8.
+// An answer is 01's number; the type byte that a mismatch carries stands after its 8.
 ghost use Prim.Native.Nat.{_<_, _≤_};
 ghost use lib.ListN.{length};
 use libc::STDOUT_FILENO;
@@ -64,4 +64,15 @@ pub fn line(words: &[u8], values: [u64; 7]) {
     for k in 0..words.len() {
         next += letter(words, k, values[next % 7]);
     }
+}
+
+// How many of the bytes are this one.
+pub fn count_equal(bytes: &[u8], wanted: u8) -> u64 {
+    let mut count: u64 = 0;
+    for k in 0..bytes.len() {
+        if bytes[k] == wanted {
+            count += 1;
+        }
+    }
+    count
 }

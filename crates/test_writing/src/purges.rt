@@ -4,23 +4,13 @@ use test_writing_cases::calls::Call;
 use test_writing_cases::records;
 use test_writing_cases::records::Sector;
 
-fn count_zeros(image: &[u8; 4096]) -> u64 {
-    let mut count: u64 = 0;
-    for k in 0..4096usize {
-        if image[k] == 0 {
-            count += 1;
-        }
-    }
-    count
-}
-
 fn purge(index: usize, span: usize) {
     let mut image = [0xFFu8; 4096];
     let answer = call_purge::purge_entries(&mut image, index, span);
     test_print::number(b"purge, index ", index as u64);
     test_print::number(b", span ", span as u64);
     test_print::answered(b": answer ", answer);
-    test_print::number(b", bytes ", count_zeros(&image));
+    test_print::number(b", bytes ", test_print::count_equal(&image, 0));
     test_print::text(b"\n");
 }
 

@@ -84,9 +84,6 @@ fn print_singles() {
     single(0xFE, 125, 0, 0x01, 1, 31);
     single(0xFE, 126, 0, 0x01, 1, 31);
     single(0xFC, 126, 0, 0x01, 1, 31);
-}
-
-fn print_bad_singles() {
     single(0xFE, 126, 0, 0x21, 1, 31);
     single(0xFE, 0, 0, 0x48, 1, 0);
     single(0xFE, 126, 0, 0x01, 0, 31);
@@ -106,22 +103,23 @@ fn print_entries() {
     print_entry(b"namespace 7", Call::Namespace);
 }
 
-// Used of the page; namespace and type; length and byte 32; a byte of the map to look at.
-fn print_variables() {
-    variable(0, 1, 0x21, 33, 0x42, 0);
-    variable(0, 1, 0x21, 33, 0xFF, 0);
-    variable(0, 1, 0x21, 0, 0x42, 0);
-    variable(0, 1, 0x21, 4000, 0x42, 31);
-    variable(0, 1, 0x21, 4001, 0x42, 31);
-    variable(126, 1, 0x21, 4001, 0x42, 31);
-    variable(126, 1, 0x21, 4000, 0x42, 31);
+// Data of bytes 0x42 in namespace 1: used of the page, the length, a byte of the map to look at.
+fn data(used: u8, length: usize, at: usize) {
+    variable(used, 1, 0x21, length, 0x42, at);
 }
 
-fn print_last_variables() {
-    variable(125, 1, 0x21, 1, 0x42, 31);
-    variable(125, 1, 0x21, 0, 0x42, 31);
-    variable(124, 1, 0x21, 1, 0x42, 31);
-    variable(15, 1, 0x21, 32, 0x42, 3);
+fn print_variables() {
+    data(0, 33, 0);
+    variable(0, 1, 0x21, 33, 0xFF, 0);
+    data(0, 0, 0);
+    data(0, 4000, 31);
+    data(0, 4001, 31);
+    data(126, 4001, 31);
+    data(126, 4000, 31);
+    data(125, 1, 31);
+    data(125, 0, 31);
+    data(124, 1, 31);
+    data(15, 32, 3);
     variable(126, 1, 0x01, 4001, 0x42, 31);
     variable(126, 1, 0x48, 0, 0x42, 31);
     variable(126, 0, 0x21, 4001, 0x42, 31);
@@ -129,8 +127,6 @@ fn print_last_variables() {
 
 pub(crate) fn print_all() {
     print_singles();
-    print_bad_singles();
     print_entries();
     print_variables();
-    print_last_variables();
 }

@@ -12,45 +12,13 @@ Inv-loop bytes₀ state₀ i₀ bytes state i = (4000 ≡ length bytes) × (stat
 abbrev μ-loop : tie.MeasureT-loop
 μ-loop bytes₀ state₀ i₀ bytes state i = 4000 - i
 
-loop-holds : tie.Need-loop-holds Inv-loop μ-loop
-loop-holds c = (refl, omega arith)
-
-mul-state : tie.Need-mul-state Inv-loop μ-loop
-mul-state c = omega arith
-
-add-state : tie.Need-add-state Inv-loop μ-loop
-add-state c = omega arith
-
-cast-bytes : tie.Need-cast-bytes Inv-loop μ-loop
-cast-bytes c = omega arith
-
-array-write-bytes : tie.Need-array-write-bytes Inv-loop μ-loop
-array-write-bytes c = omega arith
-
-add-i : tie.Need-add-i Inv-loop μ-loop
-add-i c = omega arith
-
-loop-less : tie.Need-loop-less Inv-loop μ-loop
-loop-less c = omega arith
-
-loop-again : tie.Need-loop-again Inv-loop μ-loop
-loop-again c = (rw length-set (c .before .loop .inv .0), omega arith)
-
-returns : tie.Need-returns Inv-loop μ-loop
-returns c = c .before .loop .inv .0
-
 pub sample-spec : {M : Type 1} → statement M
 sample-spec =
     tie.close
     (tie.spec
     Inv-loop
     μ-loop
-    loop-holds
-    mul-state
-    add-state
-    cast-bytes
-    array-write-bytes
-    add-i
-    loop-less
-    loop-again
-    returns)
+    (λ c. (refl, omega arith))
+    (λ c. omega arith) (λ c. omega arith) (λ c. omega arith) (λ c. omega arith) (λ c. omega arith) (λ c. omega arith)
+    (λ c. (rw length-set (c .before .loop .inv .0), omega arith))
+    (λ c. c .before .loop .inv .0))

@@ -5,8 +5,5 @@ use lib.ListN.{length-take}
 use Rattle.test_writing_cases.proofs.calls.first.Statement.{statement}
 use Rattle.test_writing_cases.proofs.calls.first.Tie as tie
 
-slice-aggregate-result : tie.Need-slice-aggregate-result
-slice-aggregate-result c = rw length-take (omega arith)
-
 pub first-spec : {M : Type 1} → statement M
-first-spec = tie.close (tie.spec slice-aggregate-result (λ c. search needs) (λ c. search needs))
+first-spec = tie.close (tie.spec (λ c. rw length-take (omega arith)) (λ c. search needs) (λ c. search needs))

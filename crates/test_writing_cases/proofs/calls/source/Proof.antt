@@ -5,18 +5,11 @@ use borrow.Author.Needs.{needs}
 use Rattle.test_writing_cases.proofs.calls.source.Statement.{statement}
 use Rattle.test_writing_cases.proofs.calls.source.Tie as tie
 
-put-requires : tie.Need-put-requires
-put-requires c κs = rw length-set (omega arith)
-
 pub source-spec : {M : Type 1} → statement M
 source-spec =
     tie.close
     (tie.spec
-    (λ c κs. search needs)
+    (λ c κs. search needs) (λ c. search needs) (λ c. search needs) (λ c. search needs) (λ c. search needs)
     (λ c. search needs)
-    (λ c. search needs)
-    (λ c. search needs)
-    (λ c. search needs)
-    (λ c. search needs)
-    put-requires
+    (λ c κs. rw length-set (omega arith))
     (λ c. search needs))
