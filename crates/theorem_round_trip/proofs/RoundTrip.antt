@@ -86,8 +86,8 @@ placesBytes-of zero (byte ∷ bytes) small h = absurd (omega arith)
 placesBytes-of (suc n) bytes small h =
     let more : 4 < length bytes = omega (arith, h) in
     let fewer : length (drop 5 bytes) ≡ 5 * n = length-drop 5 bytes ∙ omega (arith, h) in
-    ap₂ (λ (word behind : List ℕ). word ++ (getD bytes 4 0 ∷ behind)) (word-back small (omega (arith, h))) (placesBytes-of n (drop 5 bytes) (bytes-drop 5 small) fewer)
-    ∙ ap (λ (behind : List ℕ). take 4 bytes ++ behind) (sym (drop-cons bytes 4 0 more))
+    ap₂ (λ (word rest : List ℕ). word ++ (getD bytes 4 0 ∷ rest)) (word-back small (omega (arith, h))) (placesBytes-of n (drop 5 bytes) (bytes-drop 5 small) fewer)
+    ∙ ap (λ (rest : List ℕ). take 4 bytes ++ rest) (sym (drop-cons bytes 4 0 more))
     ∙ take-append-drop 4 bytes
 
 -- ---- records
@@ -116,24 +116,24 @@ pub record-comes-back : RecordComesBack
 unfolding recordBytes recordOf
 record-comes-back page holds =
     let map = page .map in
-    let behind = countBytes page ++ placesBytes (page .list) in
-    let at : (k : ℕ) → getD (map ++ behind) (32 + k) 0 ≡ getD behind k 0 =
-    λ k. ap (λ (n : ℕ). getD (map ++ behind) (n + k) 0) (sym (holds .map)) ∙ getD-append-add map behind k 0 in
-    let places : drop 35 (map ++ behind) ≡ placesBytes (page .list) =
-    ap (λ (n : ℕ). drop (n + 3) (map ++ behind)) (sym (holds .map)) ∙ drop-append-add map behind 3 in
+    let rest = countBytes page ++ placesBytes (page .list) in
+    let at : (k : ℕ) → getD (map ++ rest) (32 + k) 0 ≡ getD rest k 0 =
+    λ k. ap (λ (n : ℕ). getD (map ++ rest) (n + k) 0) (sym (holds .map)) ∙ getD-append-add map rest k 0 in
+    let places : drop 35 (map ++ rest) ≡ placesBytes (page .list) =
+    ap (λ (n : ℕ). drop (n + 3) (map ++ rest)) (sym (holds .map)) ∙ drop-append-add map rest 3 in
     same-fields (page .version)
     (state-byte (page .state))
     (number-littleEndian 4 (page .sequence) (holds .sequence))
     (number-littleEndian 4 (page .crc) (holds .crc))
-    (take-at map behind 32 (holds .map))
-    (ap (λ (b : Bool). cond b (getD (map ++ behind) 32 0) 255) (is-state (page .state)) ∙ at 0)
+    (take-at map rest 32 (holds .map))
+    (ap (λ (b : Bool). cond b (getD (map ++ rest) 32 0) 255) (is-state (page .state)) ∙ at 0)
     (at 1)
     (at 2)
     (ap (placesOf 126) places
     ∙ ap (λ (n : ℕ). placesOf n (placesBytes (page .list))) (sym (holds .list))
     ∙ placesOf-bytes (page .list) (holds .hashes))
 
--- a word before the bytes behind it
+-- a word and the bytes after it
 word-laid : (bytes : List ℕ) (i : ℕ) → Bytes bytes → i + 4 ≤ length bytes
     → littleEndian 4 (number (field i 4 bytes)) ++ drop (i + 4) bytes ≡ drop i bytes
 word-laid bytes i small h =
