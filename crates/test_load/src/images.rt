@@ -1,5 +1,7 @@
 // Pages with one item, whose entry the calls of `sector` make, and the end of a line.
 ghost use Prim.Native.Nat.{_<_};
+use sector::ENTRY_SIZE;
+use sector::ITEMS_OFFSET;
 
 // What lies in every byte of a page but those of its item's header.
 pub(crate) const FILLED: u8 = 0x77;
@@ -17,7 +19,7 @@ pub(crate) fn page_with(at: usize, over: u8, kind: u8, span: u8, size: u8) -> [u
 {
     let entry = header(over, kind, span, size);
     let mut image = [FILLED; 4096];
-    sector::bytes::put(&mut image, 64 + 32 * at, &entry);
+    sector::bytes::put(&mut image, ITEMS_OFFSET + ENTRY_SIZE * at, &entry);
     image
 }
 
