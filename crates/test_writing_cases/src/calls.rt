@@ -4,6 +4,9 @@ use call_append::Single;
 use call_append::Variable;
 use page::Outcome;
 use page::ThinPage;
+use sector::ENTRIES_PER_PAGE;
+use sector::ENTRY_SIZE;
+use sector::ITEMS_OFFSET;
 
 pub enum Call {
     Initialise,
@@ -88,7 +91,11 @@ fn source(rest: u8, place: usize, made: u8, kind: u8, span: u8) -> [u8; 4096] {
     let mut entry = sector_item::item_bytes(1, made, span, 255, [0x63; 16], [0x42; 8]);
     entry[1] = kind;
     let mut source = [rest; 4096];
-    sector::bytes::put(&mut source, 64 + 32 * (place % 126), &entry);
+    sector::bytes::put(
+        &mut source,
+        ITEMS_OFFSET + ENTRY_SIZE * (place % ENTRIES_PER_PAGE),
+        &entry,
+    );
     source
 }
 
