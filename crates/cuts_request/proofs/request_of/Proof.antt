@@ -1,8 +1,11 @@
 -- `request_of` meets its contract: each `return` is the first word that is wrong, or the request.
-use mathlib.Core.Path.{ap}
+use mathlib.Core.Path.{_≡_, sym, ap, _∙_}
+use mathlib.Core.Bool.{not, cond}
 use native.Mathlib.Omega.{arith}
 use borrow.Author.Needs.{needs}
 use Rattle.cuts_request.specs.declared.Number.{Number}
+use Rattle.cuts_request.specs.declared.Wrong.the-variants.{BadValue}
+use Rattle.cuts_request.specs.Words.{refusedFor, requestFrom, parsed}
 use Rattle.cuts_request.proofs.Laws.{numberIn-most, typeOf-most}
 use Rattle.cuts_request.proofs.request_of.Statement.{statement}
 use Rattle.cuts_request.proofs.request_of.Tie as tie
@@ -35,10 +38,16 @@ cast-byte c =
     let same = ap (λ (kind : Number). kind .value) (typed .type-of .ensures) in
     omega arith
 
-returns-4 : tie.Need-returns-4
-returns-4 c =
-    let got = c .before .before .before in
-    let third = got .before .before in
+-- where the three words before it are right, the value decides
+value-decides : (c : tie.After-value-of)
+    → let typed = c .before .before .before .before .before .before in
+    let space = typed .before .before .before in
+    let z = space .before .before .before .before .before .args in
+    parsed (z .namespace .now) (z .kind .now) (z .key .now) (z .value .now)
+    ≡ cond (not (c .value-of .result .good)) (refusedFor BadValue)
+    (requestFrom (space .number-of .result .value) (typed .type-of .result .value) (z .key .now) (c .value-of .result .value))
+value-decides c =
+    let third = c .before .before in
     let short = third .before in
     let second = short .before in
     let typed = second .before .before in
@@ -50,9 +59,11 @@ returns-4 c =
       second .if2 .left,
       ← short .is-key .ensures,
       third .if3 .left,
-      ← got .value-of .ensures,
-      c .before .if4 .taken,
-    ) (c .refused4 .ensures)
+      ← c .value-of .ensures,
+    )
+
+returns-4 : tie.Need-returns-4
+returns-4 c = c .refused4 .ensures ∙ sym (rw (c .before .if4 .taken) at (value-decides (c .before .before .before)))
 
 cast-t19 : tie.Need-cast-t19
 cast-t19 c =
@@ -70,26 +81,8 @@ returns-5 c =
     let key = width .before in
     let kind = key .before in
     let fourth = kind .before in
-    let got = fourth .before .before in
-    let third = got .before .before in
-    let short = third .before in
-    let second = short .before in
-    let typed = second .before .before in
-    let first = typed .before in
-    rw (
-      bytes .value-bytes .ensures,
-      width .value-width .ensures,
-      key .key-bytes .ensures,
-      kind .kind-of .ensures,
-      ← first .before .before .number-of .ensures,
-      first .if1 .left,
-      ← typed .type-of .ensures,
-      second .if2 .left,
-      ← short .is-key .ensures,
-      third .if3 .left,
-      ← got .value-of .ensures,
-      fourth .if4 .left,
-    )
+    rw (bytes .value-bytes .ensures, width .value-width .ensures, key .key-bytes .ensures, kind .kind-of .ensures)
+    (sym (rw (fourth .if4 .left) at (value-decides (fourth .before .before))))
 
 pub request-of-spec : {M : Type 1} → statement M
 request-of-spec =
