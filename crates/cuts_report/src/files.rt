@@ -28,11 +28,11 @@ pub(crate) fn open(path: &[u8]) -> i32 {
     fd
 }
 
-// Closes the file behind `n` bytes of it, 4,096 or all that it has: 1 where there are more, 0 where not, or -1 and why where
-// it could not be read. `io::read_full` takes a read that fails, as of a folder, for the end; the read behind it fails too, or goes on.
+// Closes the file after `n` bytes of it, 4,096 or all that it has: 1 where there are more, 0 where not, or -1 and why where
+// it could not be read. `io::read_full` takes a read that fails, as of a folder, for the end; the read after it fails too, or goes on.
 pub(crate) fn close(fd: i32, path: &[u8], n: usize) -> isize {
-    let mut behind = [0u8; 1];
-    let more = libc::read(fd, &mut behind);
+    let mut next = [0u8; 1];
+    let more = libc::read(fd, &mut next);
     libc::close(fd);
     if more < 0 || more > 0 && n < SECTOR_SIZE {
         text(b"cuts: ");

@@ -1,6 +1,6 @@
 // What the program `cuts` reads and prints: the cuts of an append, or in one sentence what is wrong.
 //
-// What it says rests on `cutting` and `request`, whose contracts determine it. Files are opened for reading alone.
+// What it says rests on `cuts_append` and `cuts_request`, whose contracts determine it. Files are opened for reading alone.
 mod files;
 mod show;
 mod words;
@@ -10,7 +10,7 @@ use cuts_request::Request;
 use sector::answers;
 use words::is_wrong;
 
-// All the cuts of an append, or why it is refused, behind a title.
+// All the cuts of an append, or why it is refused, after a title.
 pub fn print_cuts(title: &[u8], name: &[u8], before: Sector, asked: Request, payload: &[u8]) {
     show::text(title);
     show::cuts(name, before, asked, payload);

@@ -11,7 +11,7 @@ pub(crate) fn text(bytes: &[u8]) {
     io::write_all(STDOUT_FILENO, bytes);
 }
 
-// A number, with a comma behind the thousands.
+// A number, with a comma after the thousands.
 pub(crate) fn number(value: usize) {
     if value < 1000 {
         io::print_decimal(STDOUT_FILENO, value as u64);

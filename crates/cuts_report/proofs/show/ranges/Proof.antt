@@ -1,4 +1,4 @@
--- `show::ranges` is safe and ends: each range ends at or behind its start and at the last cut at most, and no more cuts are counted than were passed.
+-- `show::ranges` is safe and ends: each range ends at or after its start and at the last cut at most, and no more cuts are counted than were passed.
 use mathlib.Core.Logic.{⊎-elim}
 use Prim.Native.Nat.{_≤_, _+_, _-_}
 use native.Mathlib.Omega.{arith}
@@ -16,15 +16,6 @@ abbrev μ-loop : tie.MeasureT-loop
 within : (c : tie.After-last-alike Inv-loop μ-loop) → c .last-alike .result ≤ c .before .before .before .before .before .args .units
 within c = c .last-alike .ensures .0 .1 (search needs)
 
-add-otherwise : tie.Need-add-otherwise Inv-loop μ-loop
-add-otherwise c = let last = within (c .before .before .before .before) in omega arith
-
-add-otherwise-2 : tie.Need-add-otherwise-2 Inv-loop μ-loop
-add-otherwise-2 c = let last = within (c .before .before .before .before) in omega arith
-
-add-n : tie.Need-add-n Inv-loop μ-loop
-add-n c = let last = within (c .before .before .before .before) in omega arith
-
 loop-again : tie.Need-loop-again Inv-loop μ-loop
 loop-again c = let last = within (c .before .before .before .before) in ⊎-elim (λ w. (omega arith, omega arith)) (λ w. (omega arith, omega arith)) (c .if1 .came)
 
@@ -34,15 +25,11 @@ ranges-spec =
     (tie.spec
     Inv-loop
     μ-loop
+    (λ c. search needs) (λ c κs. search needs) (λ c κs. search needs) (λ c κs. search needs) (λ c κs. search needs)
     (λ c. search needs)
-    (λ c κs. search needs)
-    (λ c κs. search needs)
-    (λ c κs. search needs)
-    (λ c κs. search needs)
-    (λ c. search needs)
-    add-otherwise
-    add-otherwise-2
-    add-n
+    (λ c. let last = within (c .before .before .before .before) in omega arith)
+    (λ c. let last = within (c .before .before .before .before) in omega arith)
+    (λ c. let last = within (c .before .before .before .before) in omega arith)
     (λ c. search needs)
     loop-again
     (λ c. search needs))
