@@ -10,6 +10,7 @@ use crate::buffers::DATA;
 use crate::buffers::SOURCE;
 use crate::numbers;
 use libc::STDIN_FILENO;
+use sector::SECTOR_SIZE;
 use sector::bytes;
 
 pub const END: u8 = 0;
@@ -25,9 +26,6 @@ const COPY_SOURCE: u8 = 4;
 pub const CALL: u8 = 5;
 
 pub const COMPARE: u8 = 6;
-
-// No buffer has more bytes.
-const MOST: usize = 4096;
 
 // Whether the replay goes on, or why it ends.
 pub enum Status {
@@ -102,13 +100,13 @@ fn copy(all: &mut [u8], at: usize, size: usize, from: usize)
     bytes::put(all, at, &bytes[..size]);
 }
 
-// A copy out of the buffer that starts there and has 4,096 bytes.
+// A copy out of the buffer that starts there and has the size of a sector.
 fn copy_from(all: &mut [u8], at: usize, frame: Frame, start: usize) -> Status
     requires { ⌜ (length (now all) ≡ allSize) × (at + frame .size ≤ allSize) × (start + 4096 ≤ allSize) ⌝ }
 {
     let from = frame.argument as usize;
     let size = frame.size as usize;
-    if from + size > MOST {
+    if from + size > SECTOR_SIZE {
         return Status::OutOfBuffer;
     }
     copy(all, at, size, start + from);
