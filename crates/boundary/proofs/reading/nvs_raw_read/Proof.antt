@@ -1,8 +1,9 @@
 -- `nvs_raw_read` meets its contract: a wrong size changes nothing, else the call's answer is laid out.
 use mathlib.Core.Path.{refl}
 use borrow.Author.Needs.{needs}
+use Rattle.call_load.specs.declared.Loaded.{Loaded}
 use Rattle.boundary.specs.Boundary.{rawGiven}
-use Rattle.boundary.proofs.Laws.{wrong-size, right-size}
+use Rattle.boundary.proofs.Laws.{wrong-size, right-size, given-of}
 use Rattle.boundary.proofs.reading.nvs_raw_read.Statement.{statement}
 use Rattle.boundary.proofs.reading.nvs_raw_read.Tie as tie
 
@@ -14,5 +15,8 @@ nvs-raw-read-spec =
     (λ c. rw (wrong-size 57 _ (c .if1 .taken)) (refl, refl))
     (λ c κs. search needs) (λ c κs. search needs) (λ c. search needs)
     (λ c.
-    let past = c .before .before .before .before .before .before in
-    rw (right-size 57 _ (past .if1 .left)) ((cc), (cc))))
+    let gave = c .before .before in
+    let found = gave .before .before .before in
+    let past = found .before in
+    rw (right-size 57 _ (past .if1 .left))
+    (given-of (λ (l : Loaded). l .answer) (λ l. 0) (λ l. l .item) (found .read-raw-entry .ensures) (gave .give .ensures))))
