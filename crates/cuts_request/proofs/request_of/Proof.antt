@@ -5,16 +5,20 @@ use native.Mathlib.Omega.{arith}
 use borrow.Author.Needs.{needs}
 use Rattle.cuts_request.specs.declared.Number.{Number}
 use Rattle.cuts_request.specs.declared.Wrong.the-variants.{BadValue}
-use Rattle.cuts_request.specs.Words.{refusedFor, requestFrom, parsed}
+use Rattle.cuts_request.specs.Words.{numberIn, refusedFor, requestFrom, parsed}
 use Rattle.cuts_request.proofs.Laws.{numberIn-most, typeOf-most}
 use Rattle.cuts_request.proofs.request_of.Statement.{statement}
 use Rattle.cuts_request.proofs.request_of.Tie as tie
+
+-- the namespace is the word's number where that is one byte
+space-is : (c : tie.After-number-of) → numberIn 0xFF (c .before .before .before .before .before .args .namespace .now) ≡ c .number-of .result
+space-is c = sym (c .number-of .ensures)
 
 returns-2 : tie.Need-returns-2
 returns-2 c =
     let typed = c .before .before .before in
     let first = typed .before in
-    rw (← first .before .before .number-of .ensures, first .if1 .left, ← typed .type-of .ensures, c .before .if2 .taken) (c .refused2 .ensures)
+    rw (space-is (first .before .before), first .if1 .left, ← typed .type-of .ensures, c .before .if2 .taken) (c .refused2 .ensures)
 
 returns-3 : tie.Need-returns-3
 returns-3 c =
@@ -23,7 +27,7 @@ returns-3 c =
     let typed = second .before .before in
     let first = typed .before in
     rw (
-      ← first .before .before .number-of .ensures,
+      space-is (first .before .before),
       first .if1 .left,
       ← typed .type-of .ensures,
       second .if2 .left,
@@ -53,7 +57,7 @@ value-decides c =
     let typed = second .before .before in
     let first = typed .before in
     rw (
-      ← first .before .before .number-of .ensures,
+      space-is (first .before .before),
       first .if1 .left,
       ← typed .type-of .ensures,
       second .if2 .left,
@@ -89,7 +93,7 @@ request-of-spec =
     tie.close
     (tie.spec
     (λ c κs. search needs) (λ c κs. search needs)
-    (λ c. rw (← c .before .before .before .number-of .ensures, c .before .if1 .taken) (c .refused .ensures))
+    (λ c. rw (space-is (c .before .before .before), c .before .if1 .taken) (c .refused .ensures))
     (λ c κs. search needs) (λ c κs. search needs)
     returns-2
     (λ c κs. search needs) (λ c κs. search needs)
