@@ -101,7 +101,7 @@ fn write_header_and_data(
     ensures image { λ r. ⌜ now (image .exit) ≡ run (take budget (units (entryAddress start) (now (header .entry)) ++ units (entryAddress (start + 1)) (now (payload .entry)))) (now (image .entry)) ⌝ }
 {
     let entry = flash::write_aligned(image, layout::entry_address(start), header, budget);
-    let left = page_write::remaining(budget, entry);
+    let left = flash::remaining(budget, entry);
     let data = flash::write_aligned(image, layout::entry_address(start + 1), payload, left);
     entry + data
 }
@@ -124,13 +124,7 @@ fn write_variable(
     let header = header_of(item, payload);
     let bytes = write_header_and_data(image, &header, payload, start, budget);
     let span = span_for(payload.len());
-    let sealed = page_write::seal(
-        image,
-        map,
-        start,
-        span,
-        page_write::remaining(budget, bytes),
-    );
+    let sealed = page_write::seal(image, map, start, span, flash::remaining(budget, bytes));
     bytes + sealed
 }
 

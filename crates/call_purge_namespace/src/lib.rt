@@ -34,7 +34,7 @@ fn step_over(entry: [u8; 32], zeroed: bool) -> Step
     }
     Step {
         zeroed,
-        behind: page_write::remaining(entry[2] as usize, 1),
+        behind: flash::remaining(entry[2] as usize, 1),
     }
 }
 

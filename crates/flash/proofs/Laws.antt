@@ -10,7 +10,7 @@ use Prim.Native.Nat.{ℕ, zero, suc, _≤_, _<_, _+_, _-_, _*_, _/_, _%_}
 use native.Mathlib.Nat.{le-of-suc-le-suc, lt-of-le-of-lt, zero-add, suc-add, add-zero}
 use native.Mathlib.Omega.{arith}
 use lib.Bits.{bitAnd, and-le-l, and-le-r, and-comm, and-self}
-use lib.ListN.{length, take, drop, getD, set, replicate, replicate-append-replicate, take-append-drop}
+use lib.ListN.{length, take, drop, getD, set, replicate, length-append, replicate-append-replicate, take-append-drop}
 use lib.Seq.{take-nil, take-append-seam}
 use borrow.Author.Tests.{eqb-true, eq-eqb, ne-eqb}
 pub use Rattle.flash.proofs.Lists.{take-append, Bytes, bytes-nil, bytes-cons, bytes-of-getD, bytes-append, bytes-take, bytes-drop, bytes-ones, neither, every-append, every-drop, every-past, four-suc, and-ones, bit-and-assoc}
@@ -313,6 +313,14 @@ pub run-budget : (budget : ℕ) (us vs : List Unit4) (image : List ℕ)
 run-budget budget us vs image =
     ap (λ (plan : List Unit4). run plan image) (take-append budget us vs)
     ∙ run-append (take budget us) (take (budget - length us) vs) image
+
+-- the second part gets what the first leaves: the units of both, and the image after both
+pub run-both : (budget : ℕ) (us vs : List Unit4) (image : List ℕ) {between after : List ℕ} {first second left : ℕ}
+    → first ≡ length us → second ≡ length vs → left ≡ budget - first
+    → between ≡ run (take budget us) image → after ≡ run (take left vs) between
+    → (first + second ≡ length (us ++ vs)) × (after ≡ run (take budget (us ++ vs)) image)
+run-both budget us vs image eu ev el eb ea =
+    (omega (arith, length-append us vs), ea ∙ rw (el, eb, eu) (sym (run-budget budget us vs image)))
 
 pub length-run : (plan : List Unit4) (image : List ℕ) → length (run plan image) ≡ length image
 unfolding run

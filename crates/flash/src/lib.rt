@@ -1,6 +1,6 @@
 // Programming a sector in four-byte units: old AND new, a padded tail, and a stop after n units (raw.rs `write_aligned`).
 ghost use mathlib.Core.Path.{_≡_};
-ghost use Prim.Native.Nat.{_+_, _*_, _≤_, min};
+ghost use Prim.Native.Nat.{_+_, _-_, _*_, _≤_, min};
 ghost use lib.ListN.{length, take};
 ghost use Rattle.flash.specs.Flash.{allOnes, program, units, run};
 
@@ -39,6 +39,13 @@ fn program_bytes(image: &mut [u8], address: usize, bytes: &[u8])
     for i in 0..bytes.len() {
         image[address + i] = image[address + i] & bytes[i];
     }
+}
+
+// What is left of a budget after some units.
+pub fn remaining(budget: usize, units: usize) -> usize
+    ensures { λ r. ⌜ r ≡ budget - units ⌝ }
+{
+    if budget < units { 0 } else { budget - units }
 }
 
 // How many of a write's bytes lie in its first units. Units are compared, since four times the budget may not fit.

@@ -1,19 +1,19 @@
 -- Opening (01, 'Opening'): which pages open, the map units that it programs, the record that it hands back.
 --
--- In order: the header's verdict; the kept items and the list; the new map and its units, in two passes; answer and image.
+-- In order: the header's verdict; the kept items and the list; the new map and its units, in two passes; answer and image; those of a call told to stop.
 -- Not here: the reading (crate opening_reading), and what the passes do to the states and the units (crate opening_marks).
 use mathlib.Core.Bool.{Bool, true, false, _&&_, not, cond}
 use mathlib.Core.List.{List, [], _∷_, _++_}
 use Prim.Native.Nat.{ℕ, zero, suc}
 use lib.Dec.{eqb}
-use lib.ListN.{length, drop, getD}
+use lib.ListN.{length, take, drop, getD}
 use Rattle.flash.specs.Flash.{Unit4, run, allOnes}
 use Rattle.page.specs.declared.Listed.{Listed}
 use Rattle.page.specs.declared.Outcome.{Outcome}
 use Rattle.page.specs.declared.ThinPage.{ThinPage}
 use Rattle.page.specs.Record.{padded, uninitialized}
-use Rattle.page.specs.Writing.{answered}
-use Rattle.sector.specs.declared.Answer.the-variants.{Done, BadImage, CorruptedData}
+use Rattle.page.specs.Writing.{answered, stops}
+use Rattle.sector.specs.declared.Answer.the-variants.{Done, BadImage, CorruptedData, Stopped}
 use Rattle.sector.specs.declared.EntryMapState.{EntryMapState}
 use Rattle.sector.specs.declared.EntryMapState.the-variants.{Written, Erased}
 use Rattle.sector.specs.Header.{stateOfWord, headerCrc, isUninitialized, isInUse}
@@ -136,3 +136,17 @@ opening image =
 unfoldable pub openingImage : List ℕ → List ℕ
 openingImage image =
     cond (eqb (length image) sectorSize) (run (planFor (headerVerdictOf image) image) image) image
+
+-- ---- the call, told to stop
+
+-- 11 where n is below the total, with the Uninitialized record
+unfoldable pub openingStopped : List ℕ → ℕ → Outcome
+openingStopped image n =
+    cond (eqb (length image) sectorSize)
+    (cond (stops n (planFor (headerVerdictOf image) image)) (answered Stopped uninitialized) (answerFor (headerVerdictOf image) image))
+    (answered BadImage uninitialized)
+
+-- and the first n units programmed
+unfoldable pub openingStoppedImage : List ℕ → ℕ → List ℕ
+openingStoppedImage image n =
+    cond (eqb (length image) sectorSize) (run (take n (planFor (headerVerdictOf image) image)) image) image

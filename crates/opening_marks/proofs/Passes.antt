@@ -1,15 +1,15 @@
 -- The map's marks entry by entry, and its units one by one.
 use mathlib.Core.Path.{_≡_, refl, sym, ap, ap₂, _∙_}
 use mathlib.Core.Bool.{Bool, true, false, _&&_, not, cond}
-use mathlib.Core.List.{List, [], _∷_, _++_, append-nil}
+use mathlib.Core.List.{List, [], _∷_, _++_, append-nil, append-assoc}
 use Prim.Native.Nat.{ℕ, zero, suc, _+_, _*_, _<_, _≤_}
 use native.Mathlib.Nat.{le-of-suc-le-suc, not-suc-le-zero, le-refl, add-zero}
 use native.Mathlib.Numerals.{add-one}
 use native.Mathlib.Omega.{arith}
-use lib.ListN.{length, take, drop, getD, take-append-drop, drop-of-length-le}
+use lib.ListN.{length, take, drop, getD, length-append, length-take, take-append-drop, drop-of-length-le}
 use lib.Seq.{take-suc, take-all, drop-drop, getD-drop}
-use Rattle.flash.specs.Flash.{units, run}
-use Rattle.flash.proofs.Laws.{Bytes, run-append}
+use Rattle.flash.specs.Flash.{Unit4, units}
+use Rattle.flash.proofs.Laws.{Bytes, length-units-le}
 use Rattle.sector.specs.declared.EntryMapState.{EntryMapState}
 use Rattle.sector.specs.declared.EntryMapState.the-variants.{Empty, Written, Erased, Illegal}
 use Rattle.sector.specs.Layout.{entriesPerPage, mapOffset, sameBytes}
@@ -17,7 +17,7 @@ use Rattle.sector.specs.Map.{unpack, statesOf, stateAt, sameState, pack, markRa
 use Rattle.sector.proofs.Laws.{field-cons, length-statesOf, getD-statesOf, length-markRange}
 use Rattle.sector.proofs.Marks.{both, take-marked, drop-marked, getD-marked-same, statesOf-markRange, unpack-markRange, bytes-markRange, pack-unpack}
 use Rattle.opening_reading.specs.Reading.{shut}
-use Rattle.opening_marks.specs.Marks.{HasStates, upperCleared, firstPass, mapUnit, changedUnits, shutTo}
+use Rattle.opening_marks.specs.Marks.{HasStates, upperCleared, firstPass, mapUnit, changedUnit, changedUnits, shutTo}
 
 -- ---- maps by their states
 
@@ -43,19 +43,30 @@ unit-bytes map j h =
     (ap (λ (rest : List ℕ). getD map (start + 1) 0 ∷ rest) (field-cons (start + 2) 1 map (omega arith) ∙ rw third
     (ap (λ (rest : List ℕ). getD map (start + 2) 0 ∷ rest) (field-cons (start + 3) 0 map (omega arith))))))
 
--- a unit of the map is one unit of a write
-pub take-mapUnit : (map : List ℕ) (j address : ℕ) → 4 * j + 4 ≤ length map → take 1 (units address (mapUnit j map)) ≡ units address (mapUnit j map)
-unfolding units
-take-mapUnit map j address h = rw (unit-bytes map j h)
-
--- the first unit, and then the rest
-pub run-changed : (j n : ℕ) (old new image : List ℕ)
-    → run (changedUnits j (suc n) old new) image
-    ≡ run (changedUnits (suc j) n old new)
-    (run (cond (sameBytes (mapUnit j old) (mapUnit j new)) [] (units (mapOffset + 4 * j) (mapUnit j new))) image)
+-- one unit more
+pub changed-more : (j n : ℕ) (old new : List ℕ) → changedUnits j (suc n) old new ≡ changedUnits j n old new ++ changedUnit (j + n) old new
 unfolding changedUnits
-run-changed j n old new image =
-    run-append (cond (sameBytes (mapUnit j old) (mapUnit j new)) [] (units (mapOffset + 4 * j) (mapUnit j new))) (changedUnits (suc j) n old new) image
+changed-more j zero old new = rw (add-zero j) (append-nil _)
+changed-more j (suc n) old new =
+    let shift : suc j + n ≡ j + suc n = omega arith in
+    ap (λ (rest : List Unit4). changedUnit j old new ++ rest) (changed-more (suc j) n old new ∙ rw shift)
+    ∙ sym (append-assoc (changedUnit j old new) (changedUnits (suc j) n old new) (changedUnit (j + suc n) old new))
+
+-- as many at most as are looked at
+pub length-changed-le : (j n : ℕ) (old new : List ℕ) → length (changedUnits j n old new) ≤ n
+unfolding changedUnits
+length-changed-le j zero old new = le-refl 0
+length-changed-le j (suc n) old new =
+    omega (
+      arith,
+      length-append (changedUnit j old new) (changedUnits (suc j) n old new),
+      one (sameBytes (mapUnit j old) (mapUnit j new)),
+      length-changed-le (suc j) n old new,
+    )
+  where
+    one : (same : Bool) → length (cond same [] (units (mapOffset + 4 * j) (mapUnit j new))) ≤ 1
+    one true = omega arith
+    one false = omega (arith, length-units-le (mapOffset + 4 * j) (mapUnit j new), length-take 4 (drop (4 * j) new))
 
 -- ---- entries
 

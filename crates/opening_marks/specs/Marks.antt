@@ -51,8 +51,11 @@ firstPass (s ∷ states) (new ∷ news) (header ∷ headers) =
 abbrev pub mapUnit : ℕ → List ℕ → List ℕ
 mapUnit j map = field (4 * j) 4 map
 
+-- unit j of the second map, where the two differ in it
+abbrev pub changedUnit : ℕ → List ℕ → List ℕ → List Unit4
+changedUnit j old new = cond (sameBytes (mapUnit j old) (mapUnit j new)) [] (units (mapOffset + 4 * j) (mapUnit j new))
+
 -- the units from j on, n of them, in which two maps differ, with the bytes of the second
 unfoldable pub changedUnits : ℕ → ℕ → List ℕ → List ℕ → List Unit4
 changedUnits j zero old new = []
-changedUnits j (suc n) old new =
-    cond (sameBytes (mapUnit j old) (mapUnit j new)) [] (units (mapOffset + 4 * j) (mapUnit j new)) ++ changedUnits (suc j) n old new
+changedUnits j (suc n) old new = changedUnit j old new ++ changedUnits (suc j) n old new

@@ -1,14 +1,13 @@
 // The marks that opening leaves after the walk: entries before the free tail shut, and the map in two passes.
 ghost use mathlib.Core.Path.{_≡_};
 ghost use mathlib.Core.Bool.{_&&_, not, cond};
-ghost use mathlib.Core.List.{[]};
 ghost use Prim.Native.Nat.{_+_, _*_, _<_, _≤_};
-ghost use lib.ListN.{length};
-ghost use Rattle.flash.specs.Flash.{allOnes, units, run};
-ghost use Rattle.sector.specs.Layout.{sectorSize, entriesPerPage, mapOffset, entryAt, entriesOf, sameBytes};
+ghost use lib.ListN.{length, take};
+ghost use Rattle.flash.specs.Flash.{allOnes, run};
+ghost use Rattle.sector.specs.Layout.{sectorSize, entriesPerPage, entryAt, entriesOf, sameBytes};
 ghost use Rattle.sector.specs.Map.{statesOf, stateAt, sameState, markRange};
 ghost use Rattle.opening_reading.specs.Reading.{isEmpty, shutBeforeTail};
-ghost use Rattle.opening_marks.specs.Marks.{HasStates, shutTo, firstPass, mapUnit, changedUnits};
+ghost use Rattle.opening_marks.specs.Marks.{HasStates, shutTo, firstPass, mapUnit, changedUnit, changedUnits};
 use sector::ENTRIES_PER_PAGE;
 use sector::EntryMapState;
 use sector::MAP_OFFSET;
@@ -140,24 +139,31 @@ fn same_unit(old: [u8; 32], new: [u8; 32], unit: usize) -> bool
     old[start + 3] == new[start + 3]
 }
 
-// Programs a unit of the new map, unless it is as in the old one.
-fn program_unit(image: &mut [u8], old: [u8; 32], new: [u8; 32], unit: usize)
+// Programs a unit of the new map, unless it is as in the old one or the budget has no unit left, and returns how many units
+// it has.
+fn program_unit(image: &mut [u8], old: [u8; 32], new: [u8; 32], unit: usize, budget: usize) -> usize
     requires { ⌜ (length (now image) ≡ sectorSize) × (unit < 8) ⌝ }
-    ensures { λ r. ⌜ now (image .exit) ≡ run (cond (sameBytes (mapUnit unit old) (mapUnit unit new)) [] (units (mapOffset + 4 * unit) (mapUnit unit new))) (now (image .entry)) ⌝ }
+    ensures total { λ r. ⌜ r ≡ length (changedUnit unit old new) ⌝ }
+    ensures image { λ r. ⌜ now (image .exit) ≡ run (take budget (changedUnit unit old new)) (now (image .entry)) ⌝ }
 {
     if same_unit(old, new, unit) {
-        return;
+        return 0;
     }
     let start = 4 * unit;
-    flash::write_aligned(image, MAP_OFFSET + start, &new[start..start + 4], 1);
+    flash::write_aligned(image, MAP_OFFSET + start, &new[start..start + 4], budget)
 }
 
-// Programs the units in which a new map differs from the old one, in rising address.
-pub fn program_changes(image: &mut [u8], old: [u8; 32], new: [u8; 32])
+// Programs the units in which a new map differs from the old one, in rising address, at most a budget of them, and returns
+// how many they are in all.
+pub fn program_changes(image: &mut [u8], old: [u8; 32], new: [u8; 32], budget: usize) -> usize
     requires { ⌜ length (now image) ≡ sectorSize ⌝ }
-    ensures { λ r. ⌜ now (image .exit) ≡ run (changedUnits 0 8 old new) (now (image .entry)) ⌝ }
+    ensures total { λ r. ⌜ r ≡ length (changedUnits 0 8 old new) ⌝ }
+    ensures image { λ r. ⌜ now (image .exit) ≡ run (take budget (changedUnits 0 8 old new)) (now (image .entry)) ⌝ }
 {
+    let mut done: usize = 0;
     for unit in 0..8usize {
-        program_unit(image, old, new, unit);
+        let units = program_unit(image, old, new, unit, flash::remaining(budget, done));
+        done += units;
     }
+    done
 }

@@ -1,20 +1,18 @@
--- Laws of plans: how many units a write has, and two parts of a plan done under one budget.
-use mathlib.Core.Path.{_≡_, refl, sym, _∙_}
+-- Laws of plans: how many units the marks and the state word of an item have.
+use mathlib.Core.Path.{_≡_, refl}
 use mathlib.Core.Bool.{Bool, true, false, cond}
 use mathlib.Core.List.{List, [], _++_}
 use Prim.Native.Nat.{ℕ, _+_, _-_, _*_, _/_, _≤_}
 use native.Mathlib.Omega.{arith}
 use lib.Dec.{eqb}
-use lib.ListN.{length, take, drop, length-append, length-take}
-use Rattle.flash.specs.Flash.{Unit4, units, run}
-use Rattle.flash.proofs.Laws.{length-units-whole, length-units-le, run-budget}
+use lib.ListN.{length, drop, length-append, length-take}
+use Rattle.flash.specs.Flash.{units}
+use Rattle.flash.proofs.Laws.{length-units-whole, length-units-le}
 use Rattle.sector.specs.declared.PageState.the-variants.{Full}
 use Rattle.sector.specs.Header.{stateBytes}
 use Rattle.sector.specs.Layout.{entriesPerPage, mapOffset, field}
 use Rattle.sector.specs.Map.{mapUnits}
 use Rattle.page.specs.Writing.{fullUnits}
-
--- ---- how many units
 
 -- at most eight, whatever the map's length
 pub length-map-units-le : (i n : ℕ) (map : List ℕ) → i + n ≤ 126 → length (mapUnits i n map) ≤ 8
@@ -40,13 +38,3 @@ length-seal-le i n map h = rw (length-append, length-full-units) (go (eqb (i + n
     go : (full : Bool) → length (mapUnits i n map) + cond full 1 0 ≤ 9
     go true = omega (arith, length-map-units-le i n map h)
     go false = omega (arith, length-map-units-le i n map h)
-
--- ---- one budget
-
--- the second part gets what the first leaves: the units of both, and the image after both
-pub run-both : (budget : ℕ) (us vs : List Unit4) (image : List ℕ) {between after : List ℕ} {first second left : ℕ}
-    → first ≡ length us → second ≡ length vs → left ≡ budget - first
-    → between ≡ run (take budget us) image → after ≡ run (take left vs) between
-    → (first + second ≡ length (us ++ vs)) × (after ≡ run (take budget (us ++ vs)) image)
-run-both budget us vs image eu ev el eb ea =
-    (omega (arith, length-append us vs), ea ∙ rw (el, eb, eu) (sym (run-budget budget us vs image)))

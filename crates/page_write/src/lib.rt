@@ -56,13 +56,6 @@ pub fn append_refusal(image: &[u8], page: ThinPage) -> Answer
 
 // ---- entries, marks and the state word
 
-// What is left of a budget after some units.
-pub fn remaining(budget: usize, units: usize) -> usize
-    ensures { λ r. ⌜ r ≡ budget - units ⌝ }
-{
-    if budget < units { 0 } else { budget - units }
-}
-
 // Programs the state word Full, and returns its units.
 pub fn write_full(image: &mut [u8], budget: usize) -> usize
     requires { ⌜ length (now image) ≡ 4096 ⌝ }
@@ -101,7 +94,7 @@ pub fn seal(image: &mut [u8], map: [u8; 32], start: usize, span: usize, budget: 
     if start + span != ENTRIES_PER_PAGE {
         return marks;
     }
-    let full = write_full(image, remaining(budget, marks));
+    let full = write_full(image, flash::remaining(budget, marks));
     marks + full
 }
 
@@ -121,7 +114,7 @@ pub fn write_entries(
     ensures image { λ r. ⌜ now (image .exit) ≡ run (take budget (units (entryAddress start) (now (bytes .entry)) ++ (mapUnits start span map ++ fullUnits (start + span)))) (now (image .entry)) ⌝ }
 {
     let entries = flash::write_aligned(image, layout::entry_address(start), bytes, budget);
-    let sealed = seal(image, map, start, span, remaining(budget, entries));
+    let sealed = seal(image, map, start, span, flash::remaining(budget, entries));
     entries + sealed
 }
 
@@ -138,7 +131,7 @@ pub fn get_next_free_entry(page: ThinPage) -> usize
 pub fn get_free_entry_count(page: ThinPage) -> usize
     ensures { λ r. ⌜ r ≡ free page ⌝ }
 {
-    remaining(ENTRIES_PER_PAGE, get_next_free_entry(page))
+    flash::remaining(ENTRIES_PER_PAGE, get_next_free_entry(page))
 }
 
 // Full where no entry is free after an item.

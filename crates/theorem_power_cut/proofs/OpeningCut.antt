@@ -21,7 +21,7 @@ use Rattle.sector.proofs.Laws.{length-unpack}
 use Rattle.sector.proofs.Marks.{StatesClear, states-nil, states-cons, image-parts, mapOf-parts, entries-parts, unpack-pack, unpack-splice}
 use Rattle.opening_reading.specs.Reading.{keptFrom, openedStates}
 use Rattle.opening_marks.specs.Marks.{changedUnits}
-use Rattle.opening.specs.Opening.{headerVerdictOf, keptItems, openedMap, firstMap, openingPlan, openedPage, opening, openingImage, planFor}
+use Rattle.opening.specs.Opening.{headerVerdictOf, keptItems, openedMap, firstMap, openingPlan, openedPage, opening, openingImage, openingStoppedImage, planFor}
 use Rattle.opening.specs.declared.HeaderVerdict.{HeaderVerdict}
 use Rattle.opening.specs.declared.HeaderVerdict.the-variants.{Blank, Opens, WrongPageState, WrongVersion, WrongHeaderCrc}
 use Rattle.theorem_reopening.proofs.Reopened.{length-openedStates}
@@ -233,7 +233,8 @@ unfolding run
 nothing-done n image = ap (λ (plan : List Unit4). run plan image) (take-nil n)
 
 pub opening-cut : OpeningCut
-opening-cut image n sector = by-verdict (headerVerdictOf image) refl
+unfolding openingStoppedImage
+opening-cut image n sector = rw (eq-eqb (length image) 4096 (sector .size)) (by-verdict (headerVerdictOf image) refl)
   where
     unchanged : Same (run (take n []) image) image
     unchanged = subst (λ (cut : List ℕ). Same cut image) (sym (nothing-done n image)) (refl, refl, refl)

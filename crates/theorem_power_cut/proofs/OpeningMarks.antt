@@ -12,7 +12,7 @@ use Rattle.sector.specs.Layout.{sameBytes}
 use Rattle.opening_marks.specs.Marks.{mapUnit, changedUnits}
 use Rattle.opening.specs.declared.HeaderVerdict.{HeaderVerdict}
 use Rattle.opening.specs.declared.HeaderVerdict.the-variants.{Blank, Opens, WrongPageState, WrongVersion, WrongHeaderCrc}
-use Rattle.opening.specs.Opening.{headerVerdictOf, firstMap, openedMap, openingPlan, planFor, openingImage}
+use Rattle.opening.specs.Opening.{headerVerdictOf, firstMap, openedMap, openingPlan, planFor, openingImage, openingStoppedImage}
 use Rattle.theorem_writing.proofs.Promises.{after-clears}
 use Rattle.theorem_power_cut.specs.PowerCut.{MapAlone, OpeningMarksAlone}
 
@@ -41,9 +41,11 @@ map-alone : {plan : List Unit4} (image : List ℕ) → Within 32 64 plan → Map
 map-alone {plan} image w = (after-clears true plan image, take-run image w, drop-run image w)
 
 pub opening-marks-alone : OpeningMarksAlone
-unfolding openingImage
-opening-marks-alone image = (by-size (eqb (length image) 4096), λ n. map-alone image (within-take n (within-plan (headerVerdictOf image) image)))
+unfolding openingImage openingStoppedImage
+opening-marks-alone image =
+    let plan = within-plan (headerVerdictOf image) image in
+    (by-size (eqb (length image) 4096) plan, λ n. by-size (eqb (length image) 4096) (within-take n plan))
   where
-    by-size : (whole : Bool) → MapAlone image (cond whole (run (planFor (headerVerdictOf image) image) image) image)
-    by-size true = map-alone image (within-plan (headerVerdictOf image) image)
-    by-size false = (after-clears false [] image, refl, refl)
+    by-size : (whole : Bool) {plan : List Unit4} → Within 32 64 plan → MapAlone image (cond whole (run plan image) image)
+    by-size true w = map-alone image w
+    by-size false w = (after-clears false [] image, refl, refl)

@@ -12,7 +12,6 @@ use mathlib.Core.Logic.{_⊎_}
 use Prim.Native.Nat.{ℕ, _+_, _≤_, _<_}
 use lib.Dec.{leb}
 use lib.ListN.{length, take, drop}
-use Rattle.flash.specs.Flash.{run}
 use Rattle.page.specs.declared.ThinPage.{ThinPage}
 use Rattle.page.specs.Record.{nextFree, fitToUse, uninitialized}
 use Rattle.page.specs.Writing.{answered}
@@ -27,7 +26,7 @@ use Rattle.call_page_state.specs.Calls.{initialiseChecks, initialisePlan, initi
 use Rattle.call_erase.specs.Erase.{erase, eraseImage}
 use Rattle.theorem_writing.specs.Promises.{SetsNoBit, AsInCode, outcomeOf, imageOf, entryUnits}
 use Rattle.opening_reading.specs.Reading.{Item, item}
-use Rattle.opening.specs.Opening.{headerVerdictOf, headerOf, keptItems, planFor, opening, openingImage}
+use Rattle.opening.specs.Opening.{headerOf, keptItems, opening, openingImage, openingStoppedImage}
 use Rattle.theorem_power_cut.specs.History.{Sector, VariableRequest, AppendOrCopy, a-variable, entriesOfWrite, newItem, History, callOf, putRequest}
 
 -- ---- the demand
@@ -112,23 +111,19 @@ FinishedPageOpens =
 
 -- ---- opening
 
--- opening's units, and no more than n of them
-abbrev pub openingCut : List ℕ → ℕ → List ℕ
-openingCut image n = run (take n (planFor (headerVerdictOf image) image)) image
-
 -- header and entries stay, and no bit that was cleared is set
 abbrev pub MapAlone : List ℕ → List ℕ → Type 0
 MapAlone image after =
     SetsNoBit image after × (take mapOffset after ≡ take mapOffset image) × (drop itemsOffset after ≡ drop itemsOffset image)
 
--- opening programs the map alone, and only by clearing bits, at any n
+-- opening programs the map alone, and only by clearing bits, told to stop after any n
 abbrev pub OpeningMarksAlone : Type 0
-OpeningMarksAlone = (image : List ℕ) → MapAlone image (openingImage image) × ((n : ℕ) → MapAlone image (openingCut image n))
+OpeningMarksAlone = (image : List ℕ) → MapAlone image (openingImage image) × ((n : ℕ) → MapAlone image (openingStoppedImage image n))
 
 -- cut after any n, and opened again, it gives the answer, record, image and items of one whole opening
 abbrev pub OpeningCut : Type 0
 OpeningCut =
     (image : List ℕ) (n : ℕ) → Sector image
-    → (opening (openingCut image n) ≡ opening image)
-    × (openingImage (openingCut image n) ≡ openingImage image)
-    × (keptItems (openingCut image n) ≡ keptItems image)
+    → (opening (openingStoppedImage image n) ≡ opening image)
+    × (openingImage (openingStoppedImage image n) ≡ openingImage image)
+    × (keptItems (openingStoppedImage image n) ≡ keptItems image)

@@ -1,8 +1,7 @@
 -- `write_header_and_data` meets its contract: the header entry, then the data with what it leaves of the budget.
 use native.Mathlib.Omega.{arith}
 use Rattle.flash.specs.Flash.{units}
-use Rattle.flash.proofs.Laws.{length-units-le}
-use Rattle.page.proofs.Plans.{run-both}
+use Rattle.flash.proofs.Laws.{length-units-le, run-both}
 use borrow.Author.Needs.{needs}
 use Rattle.call_append_variable.proofs.write_header_and_data.Statement.{statement}
 use Rattle.call_append_variable.proofs.write_header_and_data.Tie as tie

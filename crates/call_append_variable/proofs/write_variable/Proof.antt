@@ -4,9 +4,9 @@ use Prim.Native.Nat.{_+_}
 use native.Mathlib.Omega.{arith}
 use lib.ListN.{length-append}
 use Rattle.flash.specs.Flash.{units}
-use Rattle.flash.proofs.Laws.{length-units-le}
+use Rattle.flash.proofs.Laws.{length-units-le, run-both}
 use Rattle.page.specs.Writing.{fullUnits, itemPlan}
-use Rattle.page.proofs.Plans.{length-seal-le, run-both}
+use Rattle.page.proofs.Plans.{length-seal-le}
 use Rattle.sector.specs.Layout.{entryAddress}
 use Rattle.sector.specs.Map.{mapUnits}
 use Rattle.call_append.specs.Append.{variablePlan}

@@ -7,7 +7,8 @@ use Rattle.flash.specs.Flash.{units}
 use Rattle.sector.specs.declared.PageState.the-variants.{Full}
 use Rattle.sector.specs.Header.{stateBytes}
 use Rattle.sector.specs.Map.{mapUnits}
-use Rattle.page.proofs.Plans.{length-map-units-le, length-full-units, run-both}
+use Rattle.flash.proofs.Laws.{run-both}
+use Rattle.page.proofs.Plans.{length-map-units-le, length-full-units}
 use Rattle.page_write.proofs.seal.Statement.{statement}
 use Rattle.page_write.proofs.seal.Tie as tie
 

@@ -4,10 +4,10 @@ use Prim.Native.Nat.{_+_}
 use native.Mathlib.Omega.{arith}
 use borrow.Author.Needs.{needs}
 use Rattle.flash.specs.Flash.{units}
-use Rattle.flash.proofs.Laws.{length-units-le}
+use Rattle.flash.proofs.Laws.{length-units-le, run-both}
 use Rattle.sector.specs.Map.{mapUnits}
 use Rattle.page.specs.Writing.{fullUnits}
-use Rattle.page.proofs.Plans.{length-seal-le, run-both}
+use Rattle.page.proofs.Plans.{length-seal-le}
 use Rattle.page_write.proofs.write_entries.Statement.{statement}
 use Rattle.page_write.proofs.write_entries.Tie as tie
 
