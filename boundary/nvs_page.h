@@ -85,7 +85,7 @@ extern "C" {
  * left as it was.
  *
  *   byte   0        type byte, with NVS_ITEM_TYPE_MISMATCH only
- *   byte   1 .. 9   number: a width, a size, the two bits of an entry's state, a hash bound
+ *   byte   1 .. 9   number: a CRC, a hash, a width, a size, the two bits of an entry's state, a hash bound
  *   byte   9 .. 41  item
  *   byte  41 .. 57  four counts of 4: empty, written, erased, illegal
  */
@@ -95,14 +95,15 @@ extern "C" {
 /* CRC-32 as the ESP ROM has it: the register starts as NOT start, and its NOT comes back */
 uint32_t nvs_crc32(uint32_t start, const uint8_t *data, size_t data_length);
 
-/* the CRC over bytes 0..4 and 8..32 of an item as it stands; 0 where it is not 32 bytes */
-uint32_t nvs_item_crc(const uint8_t *item, size_t item_length);
+/* number: the CRC over bytes 0..4 and 8..32 of an item of 32 bytes, as it stands */
+uint32_t nvs_item_crc(const uint8_t *item, size_t item_length, uint8_t *answer, size_t answer_length);
 
-/* the CRC over bytes 4..28 of a page's header as it stands; 0 where it is not 32 bytes */
-uint32_t nvs_header_crc(const uint8_t *header, size_t header_length);
+/* number: the CRC over bytes 4..28 of a page's header of 32 bytes, as it stands */
+uint32_t nvs_header_crc(const uint8_t *header, size_t header_length, uint8_t *answer, size_t answer_length);
 
-/* the 24-bit hash of an item; 0 where the key is not 16 bytes */
-uint32_t nvs_hash(uint8_t namespace_index, const uint8_t *key, size_t key_length, uint8_t chunk);
+/* number: the 24-bit hash of an item, whose key has 16 bytes */
+uint32_t nvs_hash(uint8_t namespace_index, const uint8_t *key, size_t key_length, uint8_t chunk, uint8_t *answer,
+                  size_t answer_length);
 
 /* the byte, or 0xFF where it is none of the thirteen types */
 uint8_t nvs_type_byte(uint8_t byte);
@@ -143,6 +144,10 @@ uint32_t nvs_hash_bound(const uint8_t *map, size_t map_length, const uint8_t *en
    read. BAD_IMAGE; CORRUPTED_DATA: neither blank nor a page whose header is right. A refusal gives the Uninitialized
    record */
 uint32_t nvs_open(uint8_t *image, size_t image_length, uint8_t *record, size_t record_length);
+
+/* the same, stopped after `stop` four-byte units, as a power cut would stop it: STOPPED, if it has more, with the
+   Uninitialized record. Open the page again then */
+uint32_t nvs_open_stopped(uint8_t *image, size_t image_length, uint8_t *record, size_t record_length, uint64_t stop);
 
 /* ---- writing
  *

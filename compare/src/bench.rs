@@ -46,9 +46,9 @@ fn ours_of(case: &Case) -> f64 {
     // Each call by its name, so that nothing is chosen while the time runs.
     match case.call {
         Call::Crc32 => again(|| ours::number(Call::Crc32, black_box(case))),
-        Call::ItemCrc => again(|| ours::number(Call::ItemCrc, black_box(case))),
-        Call::HeaderCrc => again(|| ours::number(Call::HeaderCrc, black_box(case))),
-        Call::Hash => again(|| ours::number(Call::Hash, black_box(case))),
+        Call::ItemCrc => again(|| ours::read(Call::ItemCrc, black_box(case), &mut prepared)),
+        Call::HeaderCrc => again(|| ours::read(Call::HeaderCrc, black_box(case), &mut prepared)),
+        Call::Hash => again(|| ours::read(Call::Hash, black_box(case), &mut prepared)),
         Call::TypeByte => again(|| ours::number(Call::TypeByte, black_box(case))),
         Call::Width => again(|| ours::read(Call::Width, black_box(case), &mut prepared)),
         Call::Load => again(|| ours::read(Call::Load, black_box(case), &mut prepared)),

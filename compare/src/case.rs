@@ -94,7 +94,7 @@ pub const CALLS: [Call; 22] = [
 impl Call {
     /// Whether the call hands back a number that is none of 01's, and cannot refuse.
     pub fn is_number(self) -> bool {
-        self < Call::Width
+        matches!(self, Call::Crc32 | Call::TypeByte)
     }
 
     /// Whether the call can be told to stop.
@@ -125,8 +125,7 @@ impl Call {
     }
 
     pub fn has_answer(self) -> bool {
-        use Call::*;
-        matches!(self, Width | Load | RawRead | LoadData | EntryState | Statistics | HashBound)
+        !self.is_number() && !self.writes_image()
     }
 }
 

@@ -63,9 +63,9 @@ impl Oracle {
     fn call(&mut self, case: &Case, outcome: &mut Outcome) {
         match case.call {
             Call::Crc32 => outcome.returned = software_crc32(case.number, &case.data),
-            Call::ItemCrc => outcome.returned = item_of(&case.data).calculate_crc32(software_crc32),
-            Call::HeaderCrc => outcome.returned = header_of(&case.data).calculate_crc32(software_crc32),
-            Call::Hash => outcome.returned = hash(case),
+            Call::ItemCrc => outcome.set_number(item_of(&case.data).calculate_crc32(software_crc32).into()),
+            Call::HeaderCrc => outcome.set_number(header_of(&case.data).calculate_crc32(software_crc32).into()),
+            Call::Hash => outcome.set_number(hash(case).into()),
             Call::TypeByte => outcome.returned = type_of(case.type_byte) as u8 as u32,
             Call::Width => width(case, outcome),
             Call::Load => self.load(case, outcome),

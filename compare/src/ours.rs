@@ -72,9 +72,6 @@ pub fn number(call: Call, case: &Case) -> u32 {
     unsafe {
         match call {
             Call::Crc32 => sys::nvs_crc32(case.number, data.as_ptr(), data.len()),
-            Call::ItemCrc => sys::nvs_item_crc(data.as_ptr(), data.len()),
-            Call::HeaderCrc => sys::nvs_header_crc(data.as_ptr(), data.len()),
-            Call::Hash => sys::nvs_hash(case.namespace, case.key.as_ptr(), case.key.len(), case.chunk),
             Call::TypeByte => sys::nvs_type_byte(case.type_byte).into(),
             call => unreachable!("{call:?} hands back more than a number"),
         }
@@ -86,12 +83,16 @@ pub fn number(call: Call, case: &Case) -> u32 {
 pub fn read(call: Call, case: &Case, outcome: &mut Outcome) -> u32 {
     let (image, image_length) = (case.image.as_ptr(), case.image.len());
     let (map, map_length) = (case.record.map.as_ptr(), case.record.map.len());
+    let (data, data_length, key) = (case.data.as_ptr(), case.data.len(), case.key.as_ptr());
     let entries = &case.image[64..];
     let (answer, length) = (outcome.answer.as_mut_ptr(), outcome.answer.len());
     let (output, output_length) = (outcome.output.as_mut_ptr(), outcome.output.len());
     // Safety: each pointer goes with the length of its slice, and answer and output are buffers of their own.
     unsafe {
         match call {
+            Call::ItemCrc => sys::nvs_item_crc(data, data_length, answer, length),
+            Call::HeaderCrc => sys::nvs_header_crc(data, data_length, answer, length),
+            Call::Hash => sys::nvs_hash(case.namespace, key, case.key.len(), case.chunk, answer, length),
             Call::Width => sys::nvs_width(case.type_byte, answer, length),
             Call::Load => sys::nvs_load(image, image_length, case.index, answer, length),
             Call::RawRead => sys::nvs_raw_read(image, image_length, case.index, answer, length),

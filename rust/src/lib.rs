@@ -83,20 +83,26 @@ pub fn crc32(start: u32, data: &[u8]) -> u32 {
 
 /// The CRC of an item as it stands, over all but the CRC in it.
 pub fn item_crc(item: &[u8; ITEM_SIZE]) -> u32 {
-    // Safety: the pointer is good for the length.
-    unsafe { sys::nvs_item_crc(item.as_ptr(), item.len()) }
+    let mut answer = [0; ANSWER_SIZE];
+    // Safety: each pointer is good for its length.
+    unsafe { sys::nvs_item_crc(item.as_ptr(), item.len(), answer.as_mut_ptr(), answer.len()) };
+    number_in(&answer) as u32
 }
 
 /// The CRC of a page's header as it stands, over bytes 4 to 28.
 pub fn header_crc(header: &[u8; ITEM_SIZE]) -> u32 {
-    // Safety: the pointer is good for the length.
-    unsafe { sys::nvs_header_crc(header.as_ptr(), header.len()) }
+    let mut answer = [0; ANSWER_SIZE];
+    // Safety: each pointer is good for its length.
+    unsafe { sys::nvs_header_crc(header.as_ptr(), header.len(), answer.as_mut_ptr(), answer.len()) };
+    number_in(&answer) as u32
 }
 
 /// The 24-bit hash under which a record lists an item. Items share hashes: load the item to see whether it is the one.
 pub fn hash(namespace: u8, key: &Key, chunk: u8) -> u32 {
-    // Safety: the pointer is good for the length.
-    unsafe { sys::nvs_hash(namespace, key.as_ptr(), key.len(), chunk) }
+    let mut answer = [0; ANSWER_SIZE];
+    // Safety: each pointer is good for its length.
+    unsafe { sys::nvs_hash(namespace, key.as_ptr(), key.len(), chunk, answer.as_mut_ptr(), answer.len()) };
+    number_in(&answer) as u32
 }
 
 /// The byte, or 0xFF where it is none of the thirteen types.
@@ -201,6 +207,19 @@ pub fn open(image: &mut [u8]) -> Result<Record, Refusal> {
     let bytes = &mut record.0;
     // Safety: each pointer is good for its length, and the record is a buffer of its own.
     let number = unsafe { sys::nvs_open(image.as_mut_ptr(), image.len(), bytes.as_mut_ptr(), bytes.len()) };
+    done(number)?;
+    Ok(record)
+}
+
+/// Opens a page as [`open`] does, and stops after `stop` units, as a power cut would.
+///
+/// BadImage; CorruptedData; Stopped: open the page again.
+pub fn open_stopped(image: &mut [u8], stop: u64) -> Result<Record, Refusal> {
+    let mut record = Record::default();
+    let bytes = &mut record.0;
+    let (pointer, length) = (bytes.as_mut_ptr(), bytes.len());
+    // Safety: each pointer is good for its length, and the record is a buffer of its own.
+    let number = unsafe { sys::nvs_open_stopped(image.as_mut_ptr(), image.len(), pointer, length, stop) };
     done(number)?;
     Ok(record)
 }

@@ -6,11 +6,18 @@
 unsafe extern "C" {
     pub fn nvs_crc32(start: u32, data: *const u8, data_length: usize) -> u32;
 
-    pub fn nvs_item_crc(item: *const u8, item_length: usize) -> u32;
+    pub fn nvs_item_crc(item: *const u8, item_length: usize, answer: *mut u8, answer_length: usize) -> u32;
 
-    pub fn nvs_header_crc(header: *const u8, header_length: usize) -> u32;
+    pub fn nvs_header_crc(header: *const u8, header_length: usize, answer: *mut u8, answer_length: usize) -> u32;
 
-    pub fn nvs_hash(namespace_index: u8, key: *const u8, key_length: usize, chunk: u8) -> u32;
+    pub fn nvs_hash(
+        namespace_index: u8,
+        key: *const u8,
+        key_length: usize,
+        chunk: u8,
+        answer: *mut u8,
+        answer_length: usize,
+    ) -> u32;
 
     pub fn nvs_type_byte(byte: u8) -> u8;
 
@@ -51,6 +58,14 @@ unsafe extern "C" {
     ) -> u32;
 
     pub fn nvs_open(image: *mut u8, image_length: usize, record: *mut u8, record_length: usize) -> u32;
+
+    pub fn nvs_open_stopped(
+        image: *mut u8,
+        image_length: usize,
+        record: *mut u8,
+        record_length: usize,
+        stop: u64,
+    ) -> u32;
 
     pub fn nvs_initialise(
         image: *mut u8,

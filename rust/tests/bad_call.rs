@@ -57,6 +57,7 @@ fn calls_with_a_record() {
     // Safety: no length is over that of its buffer.
     unsafe {
         assert_eq!(nvs_open(image, 4096, record, short), BAD_CALL);
+        assert_eq!(nvs_open_stopped(image, 4096, record, short, stop), BAD_CALL);
         assert_eq!(nvs_initialise(image, 4096, record, short, 1, stop), BAD_CALL);
         assert_eq!(nvs_mark_full(image, 4096, record, short), BAD_CALL);
         assert_eq!(nvs_append_single(image, 4096, record, short, 1, 1, 1, 0, key, 16, key, 8, stop), BAD_CALL);
@@ -86,15 +87,21 @@ fn bad_call_is_checked_first() {
     assert!(buffers.untouched());
 }
 
+/// A sum of too few bytes is no sum: BadCall, and the answer stays.
 #[test]
-fn numbers_of_the_wrong_length_are_zero() {
-    let bytes = [1u8; 32];
+fn sums_of_the_wrong_length() {
+    let mut buffers = Buffers::new();
+    let (bytes, answer) = ([1u8; 32], buffers.answer.as_mut_ptr());
     // Safety: no length is over that of its buffer.
     unsafe {
-        assert_eq!(nvs_item_crc(bytes.as_ptr(), 31), 0);
-        assert_eq!(nvs_header_crc(bytes.as_ptr(), 31), 0);
-        assert_eq!(nvs_hash(1, bytes.as_ptr(), 15, 0), 0);
+        assert_eq!(nvs_item_crc(bytes.as_ptr(), 31, answer, 57), BAD_CALL);
+        assert_eq!(nvs_item_crc(bytes.as_ptr(), 32, answer, 56), BAD_CALL);
+        assert_eq!(nvs_header_crc(bytes.as_ptr(), 31, answer, 57), BAD_CALL);
+        assert_eq!(nvs_header_crc(bytes.as_ptr(), 32, answer, 56), BAD_CALL);
+        assert_eq!(nvs_hash(1, bytes.as_ptr(), 15, 0, answer, 57), BAD_CALL);
+        assert_eq!(nvs_hash(1, bytes.as_ptr(), 16, 0, answer, 56), BAD_CALL);
     }
+    assert!(buffers.untouched());
 }
 
 /// A refusal leaves no byte of the answer but its type, and a refused opening the Uninitialized record.

@@ -60,7 +60,7 @@ fn declarations_of_rust() -> Vec<String> {
 #[test]
 fn both_declare_the_same() {
     let (c, rust) = (declarations_of_c(), declarations_of_rust());
-    assert_eq!(c.len(), 22);
+    assert_eq!(c.len(), 23);
     for (c, rust) in c.iter().zip(&rust) {
         assert_eq!(c, rust);
     }

@@ -149,6 +149,24 @@ fn every_refusal_once() {
     assert_eq!(append_single(&mut image, &mut record, single(1), 8), Err(Refusal::Stopped));
 }
 
+/// Opening stopped after each of its units, and begun again, gives what one whole opening gives.
+#[test]
+fn a_stopped_opening_is_begun_again() {
+    let (mut cut, mut record) = with_free(60);
+    // Bytes of 24 entries lie there unmarked.
+    assert_eq!(append_variable(&mut cut, &mut record, blob(&[7; 1000]), 190), Err(Refusal::Stopped));
+    let mut whole = cut;
+    let opened = open(&mut whole).unwrap();
+    let stops_at = |stop: u64| {
+        let mut image = cut;
+        let stopped = open_stopped(&mut image, stop);
+        assert_eq!((open(&mut image).as_ref(), image), (Ok(&opened), whole));
+        stopped
+    };
+    let units = (0..=16).find(|&stop| stops_at(stop) != Err(Refusal::Stopped)).unwrap();
+    assert_eq!((units, stops_at(units)), (4, Ok(opened.clone())));
+}
+
 /// No number is taken for its low byte.
 #[test]
 fn wide_numbers_leave_the_page() {

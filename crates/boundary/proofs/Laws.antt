@@ -10,7 +10,7 @@ use Rattle.sector.specs.declared.Answer.{Answer}
 use Rattle.sector.specs.Answers.{numberOf, carriedByte}
 use Rattle.page.specs.declared.Outcome.{Outcome}
 use Rattle.page.specs.declared.ThinPage.{ThinPage}
-use Rattle.boundary_encoding.specs.Encoding.{recordOf, answerBytes, noCounts, wrongSize}
+use Rattle.boundary_encoding.specs.Encoding.{recordOf, recordBytes, answerBytes, noCounts, wrongSize}
 use Rattle.boundary_results.specs.Handing.{recordLeft}
 
 pub wrong-size : (size : ℕ) (bytes : List ℕ) → (length bytes ≡ size → ⊥) → wrongSize size bytes ≡ true
@@ -39,3 +39,12 @@ pub called-over : (call : ThinPage → Outcome) (after : ThinPage → List ℕ) 
 called-over call after buffer read called handed =
     let made = called .0 ∙ ap call read in
     (handed .0 ∙ ap (λ (o : Outcome). numberOf (o .answer)) made, (called .1 ∙ ap after read, handed .1 ∙ ap (recordLeft buffer) made))
+
+-- opening, and what is handed back of it
+pub opened-as : (after : List ℕ) {outcome defined : Outcome} {exit last : List ℕ} {number : ℕ} → (outcome ≡ defined) × (exit ≡ after)
+    → (number ≡ numberOf (outcome .answer)) × (last ≡ recordBytes (outcome .page))
+    → (number ≡ numberOf (defined .answer)) × ((exit ≡ after) × (last ≡ recordBytes (defined .page)))
+opened-as after opened handed = (
+  handed .0 ∙ ap (λ (o : Outcome). numberOf (o .answer)) (opened .0),
+  (opened .1, handed .1 ∙ ap (λ (o : Outcome). recordBytes (o .page)) (opened .0)),
+)

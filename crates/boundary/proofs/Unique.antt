@@ -33,6 +33,8 @@ use Rattle.boundary.proofs.reading.nvs_hash_bound.Kinds as nvs-hash-bou
 use Rattle.boundary.proofs.reading.nvs_hash_bound.Reads as nvs-hash-bound
 use Rattle.boundary.proofs.writing.nvs_open.Kinds as nvs-open-kinds
 use Rattle.boundary.proofs.writing.nvs_open.Reads as nvs-open
+use Rattle.boundary.proofs.writing.nvs_open_stopped.Kinds as nvs-open-stopped-kinds
+use Rattle.boundary.proofs.writing.nvs_open_stopped.Reads as nvs-open-stopped
 use Rattle.boundary.proofs.writing.nvs_initialise.Kinds as nvs-initialise-kinds
 use Rattle.boundary.proofs.writing.nvs_initialise.Reads as nvs-initialise
 use Rattle.boundary.proofs.writing.nvs_mark_full.Kinds as nvs-mark-full-kinds
@@ -62,14 +64,14 @@ OneLeft n ps r image buffer contract =
 pub nvs-crc32-unique : OneResult 1 nvs-crc32-kinds.ps nvs-crc32-kinds.r nvs-crc32.Learnt
 nvs-crc32-unique κs args x y ex ey p q = unique p q
 
-pub nvs-item-crc-unique : OneResult 1 nvs-item-crc-kinds.ps nvs-item-crc-kinds.r nvs-item-crc.Learnt
-nvs-item-crc-unique κs args x y ex ey p q = unique p q
+pub nvs-item-crc-unique : OneOutcome 2 nvs-item-crc-kinds.ps nvs-item-crc-kinds.r (λ κs ex. now (ex .1 .0)) nvs-item-crc.Learnt
+nvs-item-crc-unique κs args x y ex ey p q = (unique (p .0) (q .0), unique (p .1) (q .1))
 
-pub nvs-header-crc-unique : OneResult 1 nvs-header-crc-kinds.ps nvs-header-crc-kinds.r nvs-header-crc.Learnt
-nvs-header-crc-unique κs args x y ex ey p q = unique p q
+pub nvs-header-crc-unique : OneOutcome 2 nvs-header-crc-kinds.ps nvs-header-crc-kinds.r (λ κs ex. now (ex .1 .0)) nvs-header-crc.Learnt
+nvs-header-crc-unique κs args x y ex ey p q = (unique (p .0) (q .0), unique (p .1) (q .1))
 
-pub nvs-hash-unique : OneResult 1 nvs-hash-kinds.ps nvs-hash-kinds.r nvs-hash.Learnt
-nvs-hash-unique κs args x y ex ey p q = unique p q
+pub nvs-hash-unique : OneOutcome 2 nvs-hash-kinds.ps nvs-hash-kinds.r (λ κs ex. now (ex .1 .1 .1 .0)) nvs-hash.Learnt
+nvs-hash-unique κs args x y ex ey p q = (unique (p .0) (q .0), unique (p .1) (q .1))
 
 pub nvs-type-byte-unique : OneResult 0 nvs-type-byte-kinds.ps nvs-type-byte-kinds.r nvs-type-byte.Learnt
 nvs-type-byte-unique κs args x y ex ey p q = unique p q
@@ -97,6 +99,9 @@ nvs-hash-bound-unique κs args x y ex ey p q = (unique (p .0) (q .0), unique (p 
 
 pub nvs-open-unique : OneLeft 2 nvs-open-kinds.ps nvs-open-kinds.r (λ κs ex. now (ex .0)) (λ κs ex. now (ex .1 .0)) nvs-open.Learnt
 nvs-open-unique κs args x y ex ey p q = (unique (p .0) (q .0), unique (p .1 .0) (q .1 .0), unique (p .1 .1) (q .1 .1))
+
+pub nvs-open-stopped-unique : OneLeft 2 nvs-open-stopped-kinds.ps nvs-open-stopped-kinds.r (λ κs ex. now (ex .0)) (λ κs ex. now (ex .1 .0)) nvs-open-stopped.Learnt
+nvs-open-stopped-unique κs args x y ex ey p q = (unique (p .0) (q .0), unique (p .1 .0) (q .1 .0), unique (p .1 .1) (q .1 .1))
 
 pub nvs-initialise-unique : OneLeft 2 nvs-initialise-kinds.ps nvs-initialise-kinds.r (λ κs ex. now (ex .0)) (λ κs ex. now (ex .1 .0)) nvs-initialise.Learnt
 nvs-initialise-unique κs args x y ex ey p q = (unique (p .0) (q .0), unique (p .1 .0) (q .1 .0), unique (p .1 .1) (q .1 .1))

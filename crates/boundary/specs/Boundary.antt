@@ -11,6 +11,8 @@ use Rattle.sector.specs.declared.Answer.{Answer}
 use Rattle.sector.specs.declared.Answer.the-variants.{Done}
 use Rattle.sector.specs.declared.Statistics.{Statistics}
 use Rattle.sector.specs.Answers.{numberOf, carriedByte}
+use Rattle.sector.specs.Header.{headerCrc}
+use Rattle.sector.specs.Item.{itemCrc, hashOf}
 use Rattle.sector.specs.Layout.{entriesPerPage, chunks}
 use Rattle.sector.specs.Map.{bitsOf, entryState, statistics}
 use Rattle.sector.specs.Types.{primitiveWidth}
@@ -25,7 +27,7 @@ use Rattle.call_purge_namespace.specs.PurgeNamespace.{purgeNamespace, purgeName
 use Rattle.call_page_state.specs.Calls.{initialise, initialiseImage, markFull, markFullImage}
 use Rattle.call_load.specs.Load.{rawEntry, loadItem}
 use Rattle.call_load_data.specs.Payload.{dataAnswer, dataOutput}
-use Rattle.opening.specs.Opening.{opening, openingImage}
+use Rattle.opening.specs.Opening.{opening, openingImage, openingStopped, openingStoppedImage}
 use Rattle.boundary_results.specs.Handing.{recordLeft}
 use Rattle.boundary_encoding.specs.Encoding.{recordSize, recordBytes, recordOf, answerSize, answerBytes, zeroItem, noCounts, wrongSize}
 
@@ -69,6 +71,19 @@ given bad buffer answer value item counts =
 
 abbrev pub badAnswer : List ℕ → Bool
 badAnswer buffer = wrongSize answerSize buffer
+
+-- the number is the CRC of an item as it stands
+unfoldable pub itemCrcGiven : List ℕ → List ℕ → Given
+itemCrcGiven item buffer = given (badAnswer buffer || wrongSize itemSize item) buffer Done (itemCrc item) zeroItem noCounts
+
+-- the number is the CRC of a page's header as it stands
+unfoldable pub headerCrcGiven : List ℕ → List ℕ → Given
+headerCrcGiven header buffer = given (badAnswer buffer || wrongSize itemSize header) buffer Done (headerCrc header) zeroItem noCounts
+
+-- the number is the hash
+unfoldable pub hashGiven : ℕ → List ℕ → ℕ → List ℕ → Given
+hashGiven namespace key chunk buffer =
+    given (badAnswer buffer || wrongSize keySize key) buffer Done (hashOf namespace key chunk) zeroItem noCounts
 
 unfoldable pub widthGiven : ℕ → List ℕ → Given
 widthGiven byte buffer =
@@ -127,14 +142,20 @@ left bad image buffer outcome after =
 abbrev pub badRecordSize : List ℕ → Bool
 badRecordSize buffer = wrongSize recordSize buffer
 
--- the record is only written, on a refusal too: it is the Uninitialized one then
-unfoldable pub openLeft : List ℕ → List ℕ → Left
-openLeft image buffer =
+-- the record is only written, on a refusal and a stop too: it is the Uninitialized one then
+abbrev pub openedLeft : List ℕ → List ℕ → Outcome → List ℕ → Left
+openedLeft image buffer outcome after =
     record {
-      number = cond (badRecordSize buffer) badCall (numberOf (opening image .answer));
-      image = cond (badRecordSize buffer) image (openingImage image);
-      buffer = cond (badRecordSize buffer) buffer (recordBytes (opening image .page));
+      number = cond (badRecordSize buffer) badCall (numberOf (outcome .answer));
+      image = cond (badRecordSize buffer) image after;
+      buffer = cond (badRecordSize buffer) buffer (recordBytes (outcome .page));
     }
+
+unfoldable pub openLeft : List ℕ → List ℕ → Left
+openLeft image buffer = openedLeft image buffer (opening image) (openingImage image)
+
+unfoldable pub openStoppedLeft : List ℕ → List ℕ → ℕ → Left
+openStoppedLeft image buffer n = openedLeft image buffer (openingStopped image n) (openingStoppedImage image n)
 
 unfoldable pub initialiseLeft : List ℕ → List ℕ → ℕ → ℕ → Left
 initialiseLeft image buffer sequence n =

@@ -1,13 +1,13 @@
-// C functions that hand back a number alone: CRCs, the hash, the type byte.
+// C functions over bytes and numbers alone: CRCs, the hash, the type byte.
 ghost use mathlib.Core.Path.{_≡_};
-ghost use mathlib.Core.Bool.{cond};
 ghost use Rattle.crc.specs.Crc.{crc32};
-ghost use Rattle.sector.specs.Header.{headerCrc};
-ghost use Rattle.sector.specs.Item.{itemCrc, hashOf};
 ghost use Rattle.sector.specs.Types.{typeByte};
-ghost use Rattle.boundary_encoding.specs.Encoding.{wrongSize};
-ghost use Rattle.boundary.specs.Boundary.{keySize, itemSize};
+ghost use Rattle.boundary.specs.Boundary.{itemCrcGiven, headerCrcGiven, hashGiven};
+use crate::ANSWER_SIZE;
+use crate::BAD_CALL;
 use crate::KEY_SIZE;
+use crate::NO_ITEM;
+use sector::Answer;
 use sector::ENTRY_SIZE;
 use sector::bytes;
 
@@ -19,37 +19,52 @@ pub extern "C" fn nvs_crc32(start: u32, bytes: &[u8]) -> u32
     crc::crc32(start, bytes)
 }
 
-// The CRC over bytes 0..4 and 8..32 of an item; 0 where it is not 32 bytes.
+// The CRC over bytes 0..4 and 8..32 of an item as it stands (`item_crc`).
 #[no_mangle]
-pub extern "C" fn nvs_item_crc(bytes: &[u8]) -> u32
-    ensures { λ r. ⌜ r ≡ cond (wrongSize itemSize (now (bytes .entry))) 0 (itemCrc (now (bytes .entry))) ⌝ }
+pub extern "C" fn nvs_item_crc(bytes: &[u8], buffer: &mut [u8]) -> u32
+    ensures number { λ r. ⌜ r ≡ itemCrcGiven (now (bytes .entry)) (now (buffer .entry)) .number ⌝ }
+    ensures buffer { λ r. ⌜ now (buffer .exit) ≡ itemCrcGiven (now (bytes .entry)) (now (buffer .entry)) .buffer ⌝ }
 {
-    if bytes.len() != ENTRY_SIZE {
-        return 0;
+    if buffer.len() != ANSWER_SIZE {
+        return BAD_CALL;
     }
-    sector_item::item_crc(bytes::array_32(bytes))
+    if bytes.len() != ENTRY_SIZE {
+        return BAD_CALL;
+    }
+    let crc = sector_item::item_crc(bytes::array_32(bytes));
+    boundary_results::give(buffer, Answer::Done, crc as u64, NO_ITEM)
 }
 
-// The CRC over bytes 4..28 of a page header; 0 where it is not 32 bytes.
+// The CRC over bytes 4..28 of a page's header as it stands (`header_crc`).
 #[no_mangle]
-pub extern "C" fn nvs_header_crc(bytes: &[u8]) -> u32
-    ensures { λ r. ⌜ r ≡ cond (wrongSize itemSize (now (bytes .entry))) 0 (headerCrc (now (bytes .entry))) ⌝ }
+pub extern "C" fn nvs_header_crc(bytes: &[u8], buffer: &mut [u8]) -> u32
+    ensures number { λ r. ⌜ r ≡ headerCrcGiven (now (bytes .entry)) (now (buffer .entry)) .number ⌝ }
+    ensures buffer { λ r. ⌜ now (buffer .exit) ≡ headerCrcGiven (now (bytes .entry)) (now (buffer .entry)) .buffer ⌝ }
 {
-    if bytes.len() != ENTRY_SIZE {
-        return 0;
+    if buffer.len() != ANSWER_SIZE {
+        return BAD_CALL;
     }
-    sector_header::header_crc(bytes::array_32(bytes))
+    if bytes.len() != ENTRY_SIZE {
+        return BAD_CALL;
+    }
+    let crc = sector_header::header_crc(bytes::array_32(bytes));
+    boundary_results::give(buffer, Answer::Done, crc as u64, NO_ITEM)
 }
 
-// The 24-bit hash of namespace, key and chunk; 0 where the key is not 16 bytes.
+// The 24-bit hash of namespace, key and chunk (`calculate_hash`).
 #[no_mangle]
-pub extern "C" fn nvs_hash(namespace: u8, key: &[u8], chunk: u8) -> u32
-    ensures { λ r. ⌜ r ≡ cond (wrongSize keySize (now (key .entry))) 0 (hashOf namespace (now (key .entry)) chunk) ⌝ }
+pub extern "C" fn nvs_hash(namespace: u8, key: &[u8], chunk: u8, buffer: &mut [u8]) -> u32
+    ensures number { λ r. ⌜ r ≡ hashGiven namespace (now (key .entry)) chunk (now (buffer .entry)) .number ⌝ }
+    ensures buffer { λ r. ⌜ now (buffer .exit) ≡ hashGiven namespace (now (key .entry)) chunk (now (buffer .entry)) .buffer ⌝ }
 {
+    if buffer.len() != ANSWER_SIZE {
+        return BAD_CALL;
+    }
     if key.len() != KEY_SIZE {
-        return 0;
+        return BAD_CALL;
     }
-    sector_hash::calculate_hash(namespace, bytes::array_16(key), chunk)
+    let hash = sector_hash::calculate_hash(namespace, bytes::array_16(key), chunk);
+    boundary_results::give(buffer, Answer::Done, hash as u64, NO_ITEM)
 }
 
 // The byte, or 0xFF where it is none of the thirteen types.

@@ -4,7 +4,7 @@
 ghost use mathlib.Core.Path.{_≡_};
 ghost use Rattle.sector.specs.Answers.{numberOf};
 ghost use Rattle.call_purge.specs.Purge.{purge, purgeImage};
-ghost use Rattle.boundary.specs.Boundary.{openLeft, initialiseLeft, markFullLeft, singleLeft, namespaceLeft, variableLeft, copyLeft, eraseLeft, purgeNamespaceLeft, singleOf, variableOf};
+ghost use Rattle.boundary.specs.Boundary.{openLeft, openStoppedLeft, initialiseLeft, markFullLeft, singleLeft, namespaceLeft, variableLeft, copyLeft, eraseLeft, purgeNamespaceLeft, singleOf, variableOf};
 use crate::BAD_CALL;
 use crate::KEY_SIZE;
 use crate::RECORD_SIZE;
@@ -25,10 +25,21 @@ pub extern "C" fn nvs_open(image: &mut [u8], buffer: &mut [u8]) -> u32
         return BAD_CALL;
     }
     let outcome = opening::open_page(image);
-    let page = outcome.page;
-    boundary_encoding::put_record(page, buffer);
-    let answer = outcome.answer;
-    answers::number_of(answer) as u32
+    boundary_results::hand_opened(buffer, outcome)
+}
+
+// Opens a page (`open_stopped`), stopped after `stop` units where it has more; the record is the Uninitialized one then.
+#[no_mangle]
+pub extern "C" fn nvs_open_stopped(image: &mut [u8], buffer: &mut [u8], stop: u64) -> u32
+    ensures number { λ r. ⌜ r ≡ openStoppedLeft (now (image .entry)) (now (buffer .entry)) stop .number ⌝ }
+    ensures image { λ r. ⌜ now (image .exit) ≡ openStoppedLeft (now (image .entry)) (now (buffer .entry)) stop .image ⌝ }
+    ensures buffer { λ r. ⌜ now (buffer .exit) ≡ openStoppedLeft (now (image .entry)) (now (buffer .entry)) stop .buffer ⌝ }
+{
+    if buffer.len() != RECORD_SIZE {
+        return BAD_CALL;
+    }
+    let outcome = opening::open_stopped(image, stop as usize);
+    boundary_results::hand_opened(buffer, outcome)
 }
 
 // Writes the header of a new page (`initialize`), stopped after `stop` units where it has more.

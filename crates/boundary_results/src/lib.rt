@@ -2,7 +2,7 @@
 ghost use mathlib.Core.Path.{_≡_};
 ghost use lib.ListN.{length};
 ghost use Rattle.sector.specs.Answers.{numberOf, carriedByte};
-ghost use Rattle.boundary_encoding.specs.Encoding.{recordSize, answerSize, answerBytes, noCounts};
+ghost use Rattle.boundary_encoding.specs.Encoding.{recordSize, recordBytes, answerSize, answerBytes, noCounts};
 ghost use Rattle.boundary_results.specs.Handing.{recordLeft};
 use page::Outcome;
 use sector::Answer;
@@ -47,6 +47,18 @@ pub fn give(buffer: &mut [u8], answer: Answer, value: u64, item: [u8; 32]) -> u3
     ensures buffer { λ r. ⌜ now (buffer .exit) ≡ answerBytes (carriedByte answer) value item noCounts ⌝ }
 {
     boundary_encoding::put_answer(buffer, carried_byte(answer), value, item, no_counts());
+    answers::number_of(answer) as u32
+}
+
+// Lays out the record that opening hands back, on a refusal and a stop too, and hands back its number in document 01.
+pub fn hand_opened(buffer: &mut [u8], outcome: Outcome) -> u32
+    requires { ⌜ length (now buffer) ≡ recordSize ⌝ }
+    ensures number { λ r. ⌜ r ≡ numberOf (outcome .answer) ⌝ }
+    ensures buffer { λ r. ⌜ now (buffer .exit) ≡ recordBytes (outcome .page) ⌝ }
+{
+    let page = outcome.page;
+    boundary_encoding::put_record(page, buffer);
+    let answer = outcome.answer;
     answers::number_of(answer) as u32
 }
 

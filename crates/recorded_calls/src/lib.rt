@@ -86,21 +86,23 @@ const MOST: u16 = 4096;
 
 // ---- the calls
 
-// The calls that hand back a number alone, up to the type byte.
-fn sum(call: u8, given: Request, key: &[u8], data: &[u8]) -> u32 {
+// The calls that hand back a number alone: the CRC, and the type byte.
+fn number(call: u8, given: Request, data: &[u8]) -> u32 {
     if call == CRC32 {
         return sums::nvs_crc32(given.start, data);
     }
+    sums::nvs_type_byte(given.kind) as u32
+}
+
+// The calls over an item, a header or a key, from the item's CRC to the hash.
+fn sum(call: u8, given: Request, key: &[u8], data: &[u8], answer: &mut [u8]) -> u32 {
     if call == ITEM_CRC {
-        return sums::nvs_item_crc(data);
+        return sums::nvs_item_crc(data, answer);
     }
     if call == HEADER_CRC {
-        return sums::nvs_header_crc(data);
+        return sums::nvs_header_crc(data, answer);
     }
-    if call == HASH {
-        return sums::nvs_hash(given.namespace, key, given.chunk);
-    }
-    sums::nvs_type_byte(given.kind) as u32
+    sums::nvs_hash(given.namespace, key, given.chunk, answer)
 }
 
 // The calls that read an image or no buffer, from width to load data.
@@ -154,15 +156,25 @@ fn put_result(left: &mut [u8], number: u32, answer: [u8; 57])
     bytes::put(left, RESULT + 4, &answer);
 }
 
-fn run_sum(call: u8, all: &[u8], given: Request, left: &mut [u8])
+fn run_number(call: u8, all: &[u8], given: Request, left: &mut [u8])
     requires { ⌜ (length (now all) ≡ allSize) × (length (now left) ≡ changedSize) × (given .payload ≤ 4096) ⌝ }
 {
     let end = DATA + given.payload as usize;
-    let number = sum(call, given, &all[KEY..SINGLE], &all[DATA..end]);
+    let number = number(call, given, &all[DATA..end]);
     put_result(left, number, [0; 57]);
 }
 
 // The answer's buffer is full of 0xA5, which the call has to write over.
+fn run_sum(call: u8, all: &[u8], given: Request, left: &mut [u8])
+    requires { ⌜ (length (now all) ≡ allSize) × (length (now left) ≡ changedSize) × (given .payload ≤ 4096) ⌝ }
+{
+    let mut answer = [0xA5u8; 57];
+    let end = DATA + given.payload as usize;
+    let number = sum(call, given, &all[KEY..SINGLE], &all[DATA..end], &mut answer);
+    put_result(left, number, answer);
+}
+
+// As `run_sum`.
 fn run_load(call: u8, all: &[u8], given: Request, left: &mut [u8])
     requires { ⌜ (length (now all) ≡ allSize) × (length (now left) ≡ changedSize) × (given .room ≤ 4096) ⌝ }
 {
@@ -178,7 +190,7 @@ fn run_load(call: u8, all: &[u8], given: Request, left: &mut [u8])
     put_result(left, number, answer);
 }
 
-// As `run_load`.
+// As `run_sum`.
 fn run_look(call: u8, all: &[u8], given: Request, left: &mut [u8])
     requires { ⌜ (length (now all) ≡ allSize) × (length (now left) ≡ changedSize) ⌝ }
 {
@@ -276,7 +288,10 @@ fn run_change(call: u8, all: &[u8], given: Request, left: &mut [u8])
 fn dispatch(call: u8, all: &[u8], given: Request, left: &mut [u8])
     requires { ⌜ (length (now all) ≡ allSize) × (length (now left) ≡ changedSize) × (given .payload ≤ 4096) × (given .room ≤ 4096) ⌝ }
 {
-    if call <= TYPE_BYTE {
+    if call == CRC32 || call == TYPE_BYTE {
+        return run_number(call, all, given, left);
+    }
+    if call <= HASH {
         return run_sum(call, all, given, left);
     }
     if call <= LOAD_DATA {

@@ -1,20 +1,31 @@
--- `nvs_hash` meets its contract: 0 by the test of the size, else the call on the same bytes.
-use mathlib.Core.Path.{ap, _∙_}
-use mathlib.Core.List.{List}
+-- `nvs_hash` meets its contract: a wrong size changes nothing, else the call's number is laid out.
+use mathlib.Core.Path.{refl, ap, _∙_}
 use Prim.Native.Nat.{ℕ}
 use borrow.Author.Needs.{needs}
+use mathlib.Core.List.{List}
 use Rattle.sector.specs.Item.{hashOf}
+use Rattle.boundary_encoding.specs.Encoding.{answerBytes, zeroItem, noCounts}
+use Rattle.boundary.specs.Boundary.{hashGiven}
 use Rattle.boundary.proofs.Laws.{wrong-size, right-size}
 use Rattle.boundary.proofs.sums.nvs_hash.Statement.{statement}
 use Rattle.boundary.proofs.sums.nvs_hash.Tie as tie
 
 pub nvs-hash-spec : {M : Type 1} → statement M
+unfolding hashGiven
 nvs-hash-spec =
     tie.close
     (tie.spec
-    (λ c. rw (wrong-size 16 _ (c .if1 .taken)))
-    (λ c κs. search needs) (λ c κs. search needs)
+    (λ c. rw (wrong-size 57 _ (c .if1 .taken)) (refl, refl))
+    (λ c. rw (right-size 57 _ (c .before .if1 .left), wrong-size 16 _ (c .if2 .taken)) (refl, refl))
+    (λ c κs. search needs) (λ c κs. search needs) (λ c. search needs) (λ c κs. search needs) (λ c. search needs)
     (λ c.
-    let z = c .before .before .before .before .args in
-    rw (right-size 16 _ (c .before .before .if1 .left))
-    (c .calculate-hash .ensures ∙ ap (λ (key : List ℕ). hashOf (z .namespace) key (z .chunk)) (c .before .array-16 .ensures))))
+    let gave = c .before .before in
+    let summed = gave .before .before in
+    let array = summed .before in
+    let past = array .before in
+    let z = past .before .before .before .before .args in
+    rw (right-size 57 _ (past .before .if1 .left), right-size 16 _ (past .if2 .left)) (
+      gave .give .ensures .0,
+      gave .give .ensures .1
+          ∙ ap (λ (value : ℕ). answerBytes 0 value zeroItem noCounts) (summed .calculate-hash .ensures ∙ ap (λ (key : List ℕ). hashOf (z .namespace) key (z .chunk)) (array .array-16 .ensures)),
+    )))

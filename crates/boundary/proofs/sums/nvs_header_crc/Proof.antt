@@ -1,15 +1,29 @@
--- `nvs_header_crc` meets its contract: 0 by the test of the size, else the call on the same bytes.
-use mathlib.Core.Path.{ap, _∙_}
+-- `nvs_header_crc` meets its contract: a wrong size changes nothing, else the call's number is laid out.
+use mathlib.Core.Path.{refl, ap, _∙_}
+use Prim.Native.Nat.{ℕ}
 use borrow.Author.Needs.{needs}
 use Rattle.sector.specs.Header.{headerCrc}
+use Rattle.boundary_encoding.specs.Encoding.{answerBytes, zeroItem, noCounts}
+use Rattle.boundary.specs.Boundary.{headerCrcGiven}
 use Rattle.boundary.proofs.Laws.{wrong-size, right-size}
 use Rattle.boundary.proofs.sums.nvs_header_crc.Statement.{statement}
 use Rattle.boundary.proofs.sums.nvs_header_crc.Tie as tie
 
 pub nvs-header-crc-spec : {M : Type 1} → statement M
+unfolding headerCrcGiven
 nvs-header-crc-spec =
     tie.close
     (tie.spec
-    (λ c. rw (wrong-size 32 _ (c .if1 .taken)))
-    (λ c κs. search needs) (λ c κs. search needs)
-    (λ c. rw (right-size 32 _ (c .before .before .if1 .left)) (c .header-crc .ensures ∙ ap headerCrc (c .before .array-32 .ensures))))
+    (λ c. rw (wrong-size 57 _ (c .if1 .taken)) (refl, refl))
+    (λ c. rw (right-size 57 _ (c .before .if1 .left), wrong-size 32 _ (c .if2 .taken)) (refl, refl))
+    (λ c κs. search needs) (λ c κs. search needs) (λ c. search needs) (λ c κs. search needs) (λ c. search needs)
+    (λ c.
+    let gave = c .before .before in
+    let summed = gave .before .before in
+    let array = summed .before in
+    let past = array .before in
+    rw (right-size 57 _ (past .before .if1 .left), right-size 32 _ (past .if2 .left)) (
+      gave .give .ensures .0,
+      gave .give .ensures .1
+          ∙ ap (λ (value : ℕ). answerBytes 0 value zeroItem noCounts) (summed .header-crc .ensures ∙ ap headerCrc (array .array-32 .ensures)),
+    )))
