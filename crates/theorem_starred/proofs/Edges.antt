@@ -4,7 +4,7 @@ use Rattle.theorem_starred.specs.Edges.{StarredEdges}
 use Rattle.call_append.specs.Append.{appendSingle, appendSingleImage, singlePlan, appendVariable, appendVariableImage, variablePlan}
 use Rattle.crc.specs.Crc.{shift, shifts, intake, register, crc32}
 use Rattle.call_erase.specs.Erase.{erasePlan, eraseImage}
-use Rattle.call_purge.specs.Purge.{purgePlan}
+use Rattle.call_purge.specs.Purge.{purgePlan, purgeImage}
 use Rattle.flash.specs.Flash.{allOnes, program, units, run}
 use Rattle.call_page_state.specs.Calls.{initialised, initialisePlan, initialiseImage}
 use Rattle.call_load_data.specs.Payload.{dataAnswer}
@@ -21,5 +21,5 @@ use Rattle.sector.specs.Map.{countIn, markRange, mapUnits}
 use Rattle.sector.specs.Types.{itemType}
 
 pub starred-edges : StarredEdges
-unfolding appendSingle appendSingleImage singlePlan appendVariable appendVariableImage variablePlan shift shifts intake register crc32 erasePlan eraseImage purgePlan allOnes program units run initialised initialisePlan initialiseImage loadItem dataAnswer headerVerdictOf keptItems openedMap firstMap changedUnits openingPlan openingImage headerRefusal payloadRefusal openedStates fitToUse withItem without withErased itemPlan stateOfWord headerCrc headerBytes itemCrc hashOf loads itemBytes sizedData chunks countIn markRange mapUnits itemType
+unfolding appendSingle appendSingleImage singlePlan appendVariable appendVariableImage variablePlan shift shifts intake register crc32 erasePlan eraseImage purgePlan purgeImage allOnes program units run initialised initialisePlan initialiseImage loadItem dataAnswer headerVerdictOf keptItems openedMap firstMap changedUnits openingPlan openingImage headerRefusal payloadRefusal openedStates fitToUse withItem without withErased itemPlan stateOfWord headerCrc headerBytes itemCrc hashOf loads itemBytes sizedData chunks countIn markRange mapUnits itemType
 starred-edges = refl

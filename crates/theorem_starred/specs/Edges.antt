@@ -3,11 +3,11 @@
 -- In order: the pages and requests of the table; the table; the statement. The edges without a star are run (crates test_map, test_load, test_writing).
 -- A mark's byte is as 01 has it where the other marks in it, and the four spare bits, are still 1.
 use mathlib.Core.Path.{_≡_}
-use mathlib.Core.Bool.{Bool, true, cond}
+use mathlib.Core.Bool.{Bool, true, false, _&&_, cond}
 use mathlib.Core.List.{List, [], _∷_, _++_}
 use Prim.Native.Nat.{ℕ}
 use lib.Dec.{eqb}
-use lib.ListN.{length, getD, replicate, set}
+use lib.ListN.{length, take, getD, replicate, set}
 use Rattle.flash.specs.Flash.{every, program}
 use Rattle.page.specs.declared.ThinPage.{ThinPage}
 use Rattle.page.specs.Record.{uninitialized}
@@ -17,16 +17,17 @@ use Rattle.sector.specs.declared.PageState.the-variants.{Active, Full}
 use Rattle.sector.specs.Answers.{numberOf}
 use Rattle.sector.specs.Header.{wordOf}
 use Rattle.sector.specs.Item.{itemBytes}
-use Rattle.sector.specs.Layout.{sectorSize, entryAt, mapOf, littleEndian, typeByteOf, spanOf, sameBytes}
+use Rattle.sector.specs.Layout.{sectorSize, entryAddress, entryAt, mapOf, littleEndian, typeByteOf, spanOf, sameBytes}
 use Rattle.sector.specs.Map.{bitsOf, stateAt, markRange}
 use Rattle.call_page_state.specs.Calls.{initialised, initialiseImage}
 use Rattle.call_append.specs.declared.Single.{Single}
 use Rattle.call_append.specs.declared.Variable.{Variable}
-use Rattle.call_append.specs.Append.{appendSingle, appendSingleImage, singlePlan, singleBytes, appendVariable, appendVariableImage, variablePlan, spanFor}
+use Rattle.call_append.specs.Append.{appendSingle, appendSingleImage, singlePlan, singleBytes, appendVariable, appendVariableImage, variableHeader, variablePlan, spanFor}
 use Rattle.call_erase.specs.Erase.{eraseImage}
-use Rattle.call_purge.specs.Purge.{purgePlan}
+use Rattle.call_purge.specs.Purge.{purgeImage}
 use Rattle.call_load_data.specs.Payload.{dataAnswer}
 use Rattle.call_load.specs.Load.{loadItem}
+use Rattle.opening_reading.specs.Reading.{Item, item, joined}
 use Rattle.opening.specs.Opening.{keptItems, openingImage}
 
 -- ---- pages and requests
@@ -90,6 +91,16 @@ Edge = ℕ × ℕ
 abbrev pub holds : Bool → ℕ
 holds test = cond test 1 0
 
+-- the same index, and the same bytes
+abbrev pub sameItem : Item → Item → Bool
+sameItem (item i entries) (item j others) = eqb i j && sameBytes (joined entries) (joined others)
+
+-- as many items, and the same
+abbrev pub sameItems : List Item → List Item → Bool
+sameItems [] others = eqb (length others) 0
+sameItems (x ∷ xs) [] = false
+sameItems (x ∷ xs) (y ∷ ys) = sameItem x y && sameItems xs ys
+
 -- an entry's bits in the map
 abbrev pub marksAt : List ℕ → ℕ → ℕ
 marksAt image i = bitsOf (stateAt (mapOf image) i)
@@ -136,7 +147,7 @@ cutEdges =
     ∷ (marksAt (openingImage (cut15 16)) 15, bitsOf Erased)
     ∷ (marksAt (openingImage (cut15 16)) 16, bitsOf Erased)
     -- cut at 17: whole, 16 becomes Written
-    ∷ (length (keptItems (cut15 17)), 1)
+    ∷ (holds (sameItems (keptItems (cut15 17)) (item 15 (variableHeader sized (replicate 32 7) ∷ replicate 32 7 ∷ []) ∷ [])), 1)
     ∷ (marksAt (cut15 17) 16, bitsOf Empty)
     ∷ (marksAt (openingImage (cut15 17)) 16, bitsOf Written)
     ∷ []
@@ -148,8 +159,9 @@ readEdges =
     ∷ (dataAnswer (sizeAtSpan3 64) 0 64 .size, 64)
     ∷ (numberOf (dataAnswer (sizeAtSpan3 65) 0 68 .answer), 9)
     -- purge at 125, span 9: one entry; at 126: none
-    ∷ (length (purgePlan 125 9), 8)
-    ∷ (length (purgePlan 126 9), 0)
+    ∷ (holds (sameBytes (entryAt (purgeImage freshImage 125 9) 125) (replicate 32 0)), 1)
+    ∷ (holds (sameBytes (take (entryAddress 125) (purgeImage freshImage 125 9)) (take (entryAddress 125) freshImage)), 1)
+    ∷ (holds (sameBytes (purgeImage freshImage 126 9) freshImage), 1)
     -- type byte 0x05 with its CRC made over 0xFF loads as Any; made over 0x05, KeyNotFound
     ∷ (numberOf (loadItem (type05 0xFF) 0 .answer), 0)
     ∷ (typeByteOf (loadItem (type05 0xFF) 0 .item), 0xFF)
