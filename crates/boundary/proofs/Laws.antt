@@ -9,7 +9,7 @@ use borrow.Author.Tests.{eq-eqb, ne-eqb}
 use Rattle.sector.specs.declared.Answer.{Answer}
 use Rattle.sector.specs.Answers.{numberOf, carriedByte}
 use Rattle.page.specs.declared.Outcome.{Outcome}
-use Rattle.page.specs.declared.ThinPage.{ThinPage}
+use Rattle.page.specs.Record.{Page}
 use Rattle.boundary_encoding.specs.Encoding.{recordOf, recordBytes, answerBytes, noCounts, wrongSize}
 use Rattle.boundary_results.specs.Handing.{recordLeft}
 
@@ -30,8 +30,8 @@ given-of {A} answer value item e given = (
 )
 
 -- a call over the record that was read out of its bytes, and what is handed back of it
-pub called-over : (call : ThinPage → Outcome) (after : ThinPage → List ℕ) (buffer : List ℕ)
-    {page : ThinPage} {outcome : Outcome} {exit last : List ℕ} {number : ℕ}
+pub called-over : (call : Page → Outcome) (after : Page → List ℕ) (buffer : List ℕ)
+    {page : Page} {outcome : Outcome} {exit last : List ℕ} {number : ℕ}
     → page ≡ recordOf buffer → (outcome ≡ call page) × (exit ≡ after page)
     → (number ≡ numberOf (outcome .answer)) × (last ≡ recordLeft buffer outcome)
     → (number ≡ numberOf (call (recordOf buffer) .answer))

@@ -9,7 +9,7 @@ use Prim.Native.Nat.{ℕ, zero, suc}
 use lib.Dec.{eqb, leb}
 use lib.ListN.{length, take, drop, getD, replicate}
 use Rattle.page.specs.declared.Listed.{Listed}
-use Rattle.page.specs.declared.ThinPage.{ThinPage}
+use Rattle.page.specs.Record.{Page}
 use Rattle.sector.specs.declared.PageState.{PageState}
 use Rattle.sector.specs.declared.PageState.the-variants.{Uninitialized, Active, Full, Freeing, Corrupt, Invalid}
 use Rattle.sector.specs.declared.Statistics.{Statistics}
@@ -64,15 +64,15 @@ abbrev pub listOffset : ℕ
 listOffset = 45
 
 -- state 1, sequence 4, version 1, header CRC 4
-abbrev pub headBytes : ThinPage → List ℕ
+abbrev pub headBytes : Page → List ℕ
 headBytes page =
     stateByte (page .state) ∷ (littleEndian 4 (page .sequence) ++ (page .version ∷ littleEndian 4 (page .crc)))
 
 -- used, erased, length
-abbrev pub countBytes : ThinPage → List ℕ
+abbrev pub countBytes : Page → List ℕ
 countBytes page = page .used ∷ page .erased ∷ page .len ∷ []
 
-unfoldable pub recordBytes : ThinPage → List ℕ
+unfoldable pub recordBytes : Page → List ℕ
 recordBytes page = headBytes page ++ (page .map ++ (countBytes page ++ placesBytes (page .list)))
 
 -- ---- the record that bytes hold
@@ -81,7 +81,7 @@ recordBytes page = headBytes page ++ (page .map ++ (countBytes page ++ placesByt
 abbrev pub usedOf : List ℕ → ℕ
 usedOf bytes = cond (isState (getD bytes 0 0)) (getD bytes 42 0) 255
 
-unfoldable pub recordOf : List ℕ → ThinPage
+unfoldable pub recordOf : List ℕ → Page
 recordOf bytes =
     record {
       state = stateOfByte (getD bytes 0 0);

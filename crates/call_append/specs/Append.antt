@@ -8,8 +8,7 @@ use lib.Dec.{eqb, ltb}
 use lib.ListN.{length, take, replicate}
 use Rattle.flash.specs.Flash.{Unit4, units}
 use Rattle.page.specs.declared.Outcome.{Outcome}
-use Rattle.page.specs.declared.ThinPage.{ThinPage}
-use Rattle.page.specs.Record.{nextFree, withItem}
+use Rattle.page.specs.Record.{Page, nextFree, withItem}
 use Rattle.page.specs.Writing.{badImage, badRecord, notActive, overFree, outcome, imageAfter, stops, itemPlan}
 use Rattle.sector.specs.declared.Answer.the-variants.{BadRequest, ValueTooLong}
 use Rattle.sector.specs.declared.ItemType.{ItemType}
@@ -43,7 +42,7 @@ isSingle Any = false
 abbrev pub singleRequest : Single → Check
 singleRequest item = (not (isSingle (itemType (item .kind)) && eqb (item .span) 1), BadRequest)
 
-abbrev pub singleChecks : List ℕ → ThinPage → Single → List Check
+abbrev pub singleChecks : List ℕ → Page → Single → List Check
 singleChecks image page item =
     badImage image ∷ badRecord page ∷ notActive page ∷ singleRequest item ∷ overFree page 1 ∷ []
 
@@ -52,18 +51,18 @@ abbrev pub singleBytes : Single → List ℕ
 singleBytes item = itemBytes (item .namespace) (item .kind) 1 (item .chunk) (item .key) (item .bytes)
 
 -- the entry at next free, then its mark, then the state word where no entry is free
-unfoldable pub singlePlan : ThinPage → Single → List Unit4
+unfoldable pub singlePlan : Page → Single → List Unit4
 singlePlan page item =
     itemPlan (units (entryAddress (nextFree page)) (singleBytes item)) (nextFree page) 1 (page .map)
 
-abbrev pub withSingle : ThinPage → Single → ThinPage
+abbrev pub withSingle : Page → Single → Page
 withSingle page item = withItem page 1 (item .namespace) (hashOf (item .namespace) (item .key) (item .chunk))
 
-unfoldable pub appendSingle : List ℕ → ThinPage → Single → ℕ → Outcome
+unfoldable pub appendSingle : List ℕ → Page → Single → ℕ → Outcome
 appendSingle image page item n =
     outcome (singleChecks image page item) (stops n (singlePlan page item)) page (withSingle page item)
 
-unfoldable pub appendSingleImage : List ℕ → ThinPage → Single → ℕ → List ℕ
+unfoldable pub appendSingleImage : List ℕ → Page → Single → ℕ → List ℕ
 appendSingleImage image page item n = imageAfter (singleChecks image page item) (take n (singlePlan page item)) image
 
 -- ---- the namespace append
@@ -84,7 +83,7 @@ abbrev pub variableRequest : Variable → Check
 variableRequest item = (not (hasPayload (itemType (item .kind))) || eqb (item .namespace) 0, BadRequest)
 
 -- span over 126, then span over free
-abbrev pub variableChecks : List ℕ → ThinPage → Variable → List ℕ → List Check
+abbrev pub variableChecks : List ℕ → Page → Variable → List ℕ → List Check
 variableChecks image page item payload =
     badImage image
     ∷ badRecord page
@@ -100,21 +99,21 @@ variableHeader item payload =
     itemBytes (item .namespace) (item .kind) (spanFor (length payload)) (item .chunk) (item .key) (sizedData payload)
 
 -- header entry, data, marks, state word
-unfoldable pub variablePlan : ThinPage → Variable → List ℕ → List Unit4
+unfoldable pub variablePlan : Page → Variable → List ℕ → List Unit4
 variablePlan page item payload =
     let start = nextFree page in
     itemPlan
     (units (entryAddress start) (variableHeader item payload) ++ units (entryAddress (start + 1)) payload)
     start (spanFor (length payload)) (page .map)
 
-abbrev pub withVariable : ThinPage → Variable → List ℕ → ThinPage
+abbrev pub withVariable : Page → Variable → List ℕ → Page
 withVariable page item payload =
     withItem page (spanFor (length payload)) (item .namespace) (hashOf (item .namespace) (item .key) (item .chunk))
 
-unfoldable pub appendVariable : List ℕ → ThinPage → Variable → List ℕ → ℕ → Outcome
+unfoldable pub appendVariable : List ℕ → Page → Variable → List ℕ → ℕ → Outcome
 appendVariable image page item payload n =
     outcome (variableChecks image page item payload) (stops n (variablePlan page item payload)) page (withVariable page item payload)
 
-unfoldable pub appendVariableImage : List ℕ → ThinPage → Variable → List ℕ → ℕ → List ℕ
+unfoldable pub appendVariableImage : List ℕ → Page → Variable → List ℕ → ℕ → List ℕ
 appendVariableImage image page item payload n =
     imageAfter (variableChecks image page item payload) (take n (variablePlan page item payload)) image

@@ -6,7 +6,7 @@ use Prim.Native.Nat.{ℕ}
 use native.Mathlib.Omega.{arith}
 use lib.Dec.{ltb}
 use lib.ListN.{length}
-use Rattle.page.specs.declared.ThinPage.{ThinPage}
+use Rattle.page.specs.Record.{Page}
 use Rattle.page.specs.Writing.{notActive, overFree}
 use Rattle.sector.proofs.Laws.{accepted-tail}
 use Rattle.page.proofs.Checks.{accepted-room, accepted-usable}
@@ -17,7 +17,7 @@ use Rattle.call_append.proofs.Laws.{Room}
 use Rattle.call_append.specs.declared.Variable.{Variable}
 use Rattle.call_append.specs.Append.{spanFor, variableRequest, variableChecks}
 
-pub variable-room : (image : List ℕ) (page : ThinPage) (item : Variable) (payload : List ℕ)
+pub variable-room : (image : List ℕ) (page : Page) (item : Variable) (payload : List ℕ)
     → accepted (variableChecks image page item payload) ≡ true → Room image page (spanFor (length payload))
 variable-room image page item payload h =
     let span = spanFor (length payload) in

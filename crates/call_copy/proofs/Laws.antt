@@ -11,8 +11,7 @@ use borrow.Author.Tests.{eqb-true, eqb-false, ltb-true, ltb-false, not-false}
 use Rattle.flash.specs.Flash.{units}
 use Rattle.flash.proofs.Laws.{neither}
 use Rattle.sector.proofs.Laws.{accepted-at}
-use Rattle.page.specs.declared.ThinPage.{ThinPage}
-use Rattle.page.specs.Record.{nextFree, free, fitToUse, withItem}
+use Rattle.page.specs.Record.{Page, nextFree, free, fitToUse, withItem}
 use Rattle.page.specs.Writing.{fullUnits, itemPlan}
 use Rattle.sector.specs.declared.Answer.the-variants.{Done}
 use Rattle.sector.specs.Answers.{accepted}
@@ -24,7 +23,7 @@ use Rattle.call_copy.specs.Copy.{copyChecks, copiedBytes, copyPlan, with
 -- ---- the checks
 
 -- what passes all of copy's checks
-pub record CopyFits (image : List ℕ) (page : ThinPage) (source : List ℕ) (i : ℕ) : Type 0 where
+pub record CopyFits (image : List ℕ) (page : Page) (source : List ℕ) (i : ℕ) : Type 0 where
   pub whole : length image ≡ sectorSize
   pub source-whole : length source ≡ sectorSize
   pub fit : fitToUse page ≡ true
@@ -33,7 +32,7 @@ pub record CopyFits (image : List ℕ) (page : ThinPage) (source : List ℕ) (i 
   pub spans : i + spanOf (entryAt source i) ≤ entriesPerPage
   pub room : nextFree page + spanOf (entryAt source i) ≤ entriesPerPage
 
-pub copy-fits : (image : List ℕ) (page : ThinPage) (source : List ℕ) (i : ℕ) → accepted (copyChecks image page source i) ≡ true → CopyFits image page source i
+pub copy-fits : (image : List ℕ) (page : Page) (source : List ℕ) (i : ℕ) → accepted (copyChecks image page source i) ≡ true → CopyFits image page source i
 copy-fits image page source i h =
     let at : (n : ℕ) → getD (copyChecks image page source i) n (false, Done) .0 ≡ false = λ n. accepted-at (copyChecks image page source i) n h in
     let span : ℕ = spanOf (entryAt source i) in
@@ -61,7 +60,7 @@ part-copied source i = ap (λ (n : ℕ). take n (drop (entryAddress i) source)) 
     size i n = omega arith
 
 -- the bytes from the item's first entry up to the one after it, and the marks of the record that has the item
-pub plan-copied : (page new : ThinPage) (source entry : List ℕ) (i start first end hash : ℕ)
+pub plan-copied : (page new : Page) (source entry : List ℕ) (i start first end hash : ℕ)
     → entry ≡ entryAt source i → new ≡ withItem page (spanOf entry) (namespaceOf entry) hash
     → start ≡ nextFree page → first ≡ entryAddress i → end ≡ entryAddress (i + spanOf entry)
     → units (entryAddress start) (take (end - first) (drop first source)) ++ (mapUnits start (spanOf entry) (new .map) ++ fullUnits (start + spanOf entry))
@@ -70,6 +69,6 @@ unfolding copyPlan itemPlan withItem
 plan-copied page new source entry i start first end hash read with-it at from to =
     rw (with-it, at, from, to, read, part-copied source i)
 
-pub with-copied : (page : ThinPage) (source entry : List ℕ) (i hash : ℕ) → entry ≡ entryAt source i → hash ≡ hashOfItem entry
+pub with-copied : (page : Page) (source entry : List ℕ) (i hash : ℕ) → entry ≡ entryAt source i → hash ≡ hashOfItem entry
     → withItem page (spanOf entry) (namespaceOf entry) hash ≡ withCopy page source i
 with-copied page source entry i hash read hashed = rw (hashed, read)

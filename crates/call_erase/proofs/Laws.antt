@@ -15,8 +15,7 @@ use borrow.Author.Tests.{eq-eqb, ne-eqb, eqb-true, eqb-false, ltb-false, not-fal
 use Rattle.flash.specs.Flash.{every}
 use Rattle.flash.proofs.Laws.{neither}
 use Rattle.page.specs.declared.Listed.{Listed}
-use Rattle.page.specs.declared.ThinPage.{ThinPage}
-use Rattle.page.specs.Record.{noItem, without, padded, fitToUse, withErased}
+use Rattle.page.specs.Record.{Page, noItem, without, padded, fitToUse, withErased}
 use Rattle.page.proofs.Laws.{padded-more}
 use Rattle.page.proofs.Plans.{length-map-units-le}
 use Rattle.sector.specs.declared.Answer.the-variants.{Done}
@@ -86,14 +85,14 @@ written-le map index span long h all =
 -- ---- erase's checks and plan
 
 -- what passes all of erase's checks
-pub record EraseFits (image : List ℕ) (page : ThinPage) (index span : ℕ) : Type 0 where
+pub record EraseFits (image : List ℕ) (page : Page) (index span : ℕ) : Type 0 where
   pub whole : length image ≡ sectorSize
   pub fit : fitToUse page ≡ true
   pub some : 1 ≤ span
   pub spans : index + span ≤ entriesPerPage
   pub written : allWritten (page .map) index span ≡ true
 
-pub erase-fits : (image : List ℕ) (page : ThinPage) (index span : ℕ) → accepted (eraseChecks image page index span) ≡ true
+pub erase-fits : (image : List ℕ) (page : Page) (index span : ℕ) → accepted (eraseChecks image page index span) ≡ true
     → EraseFits image page index span
 erase-fits image page index span h =
     let checks = eraseChecks image page index span in
@@ -108,7 +107,7 @@ erase-fits image page index span h =
     }
 
 -- a map has at most eight units, and the new record has the marks
-pub plan-erased : (page new : ThinPage) (index span : ℕ) → new ≡ withErased page index span → index + span ≤ entriesPerPage
+pub plan-erased : (page new : Page) (index span : ℕ) → new ≡ withErased page index span → index + span ≤ entriesPerPage
     → take 8 (mapUnits index span (new .map)) ≡ erasePlan page index span
 unfolding erasePlan withErased
 plan-erased page new index span erased h =

@@ -6,8 +6,7 @@ use lib.Dec.{eqb, ltb}
 use lib.ListN.{take, drop}
 use Rattle.flash.specs.Flash.{Unit4, every}
 use Rattle.page.specs.declared.Outcome.{Outcome}
-use Rattle.page.specs.declared.ThinPage.{ThinPage}
-use Rattle.page.specs.Record.{withErased}
+use Rattle.page.specs.Record.{Page, withErased}
 use Rattle.page.specs.Writing.{badImage, badRecord, outcome, imageAfter}
 use Rattle.sector.specs.declared.Answer.the-variants.{WrongState, CorruptedData, NotWritten}
 use Rattle.sector.specs.declared.EntryMapState.the-variants.{Written, Erased}
@@ -21,7 +20,7 @@ abbrev pub allWritten : List ℕ → ℕ → ℕ → Bool
 allWritten map index span = every (sameState Written) (take span (drop index (statesOf map)))
 
 -- span 0 or index + span over 126; an entry not Written
-abbrev pub eraseChecks : List ℕ → ThinPage → ℕ → ℕ → List Check
+abbrev pub eraseChecks : List ℕ → Page → ℕ → ℕ → List Check
 eraseChecks image page index span =
     badImage image
     ∷ badRecord page
@@ -31,11 +30,11 @@ eraseChecks image page index span =
     ∷ []
 
 -- marks alone
-unfoldable pub erasePlan : ThinPage → ℕ → ℕ → List Unit4
+unfoldable pub erasePlan : Page → ℕ → ℕ → List Unit4
 erasePlan page index span = mapUnits index span (markRange Erased index span (page .map))
 
-unfoldable pub erase : List ℕ → ThinPage → ℕ → ℕ → Outcome
+unfoldable pub erase : List ℕ → Page → ℕ → ℕ → Outcome
 erase image page index span = outcome (eraseChecks image page index span) false page (withErased page index span)
 
-unfoldable pub eraseImage : List ℕ → ThinPage → ℕ → ℕ → List ℕ
+unfoldable pub eraseImage : List ℕ → Page → ℕ → ℕ → List ℕ
 eraseImage image page index span = imageAfter (eraseChecks image page index span) (erasePlan page index span) image

@@ -8,7 +8,7 @@ use lib.ListN.{take}
 use Rattle.crc.specs.Crc.{crc32}
 use Rattle.flash.specs.Flash.{Unit4, units, allOnes}
 use Rattle.page.specs.declared.Outcome.{Outcome}
-use Rattle.page.specs.declared.ThinPage.{ThinPage}
+use Rattle.page.specs.Record.{Page}
 use Rattle.page.specs.Writing.{badImage, badRecord, notActive, outcome, imageAfter, stops}
 use Rattle.sector.specs.declared.Answer.the-variants.{WrongState, CorruptedData}
 use Rattle.sector.specs.declared.PageState.the-variants.{Active, Full}
@@ -19,7 +19,7 @@ use Rattle.sector.specs.Item.{crcStart}
 -- ---- initialise
 
 -- then: state not Uninitialized; image not all 0xFF
-abbrev pub initialiseChecks : List ℕ → ThinPage → List Check
+abbrev pub initialiseChecks : List ℕ → Page → List Check
 initialiseChecks image page =
     badImage image
     ∷ badRecord page
@@ -32,7 +32,7 @@ unfoldable pub initialisePlan : ℕ → List Unit4
 initialisePlan sequence = units 0 (headerBytes sequence)
 
 -- state Active, version 0xFE
-unfoldable pub initialised : ThinPage → ℕ → ThinPage
+unfoldable pub initialised : Page → ℕ → Page
 initialised page sequence =
     record {
       state = Active;
@@ -46,24 +46,24 @@ initialised page sequence =
       list = page .list;
     }
 
-unfoldable pub initialise : List ℕ → ThinPage → ℕ → ℕ → Outcome
+unfoldable pub initialise : List ℕ → Page → ℕ → ℕ → Outcome
 initialise image page sequence n =
     outcome (initialiseChecks image page) (stops n (initialisePlan sequence)) page (initialised page sequence)
 
-unfoldable pub initialiseImage : List ℕ → ThinPage → ℕ → ℕ → List ℕ
+unfoldable pub initialiseImage : List ℕ → Page → ℕ → ℕ → List ℕ
 initialiseImage image page sequence n =
     imageAfter (initialiseChecks image page) (take n (initialisePlan sequence)) image
 
 -- ---- mark full
 
-abbrev pub markFullChecks : List ℕ → ThinPage → List Check
+abbrev pub markFullChecks : List ℕ → Page → List Check
 markFullChecks image page = badImage image ∷ badRecord page ∷ notActive page ∷ []
 
 -- the state word
 unfoldable pub markFullPlan : List Unit4
 markFullPlan = units 0 (stateBytes Full)
 
-unfoldable pub markedFull : ThinPage → ThinPage
+unfoldable pub markedFull : Page → Page
 markedFull page =
     record {
       state = Full;
@@ -77,8 +77,8 @@ markedFull page =
       list = page .list;
     }
 
-unfoldable pub markFull : List ℕ → ThinPage → Outcome
+unfoldable pub markFull : List ℕ → Page → Outcome
 markFull image page = outcome (markFullChecks image page) false page (markedFull page)
 
-unfoldable pub markFullImage : List ℕ → ThinPage → List ℕ
+unfoldable pub markFullImage : List ℕ → Page → List ℕ
 markFullImage image page = imageAfter (markFullChecks image page) markFullPlan image

@@ -8,7 +8,7 @@ use lib.Dec.{eqb}
 use lib.ListN.{replicate}
 use Rattle.flash.specs.Flash.{Unit4, units}
 use Rattle.page.specs.declared.Outcome.{Outcome}
-use Rattle.page.specs.declared.ThinPage.{ThinPage}
+use Rattle.page.specs.Record.{Page}
 use Rattle.page.specs.Writing.{badImage, badRecord, outcome, imageAfter}
 use Rattle.sector.specs.declared.EntryMapState.{EntryMapState}
 use Rattle.sector.specs.declared.EntryMapState.the-variants.{Empty, Written, Erased, Illegal}
@@ -48,16 +48,16 @@ unfoldable pub zeroUnits : ℕ → List Bool → List Unit4
 zeroUnits i [] = []
 zeroUnits i (z ∷ zs) = cond z (units (entryAddress i) (replicate entrySize 0)) [] ++ zeroUnits (suc i) zs
 
-unfoldable pub purgeNamespacePlan : List ℕ → ThinPage → ℕ → List Unit4
+unfoldable pub purgeNamespacePlan : List ℕ → Page → ℕ → List Unit4
 purgeNamespacePlan image page namespace =
     zeroUnits 0 (toZero namespace zero false (statesOf (page .map)) (entriesOf image))
 
-abbrev pub purgeNamespaceChecks : List ℕ → ThinPage → List Check
+abbrev pub purgeNamespaceChecks : List ℕ → Page → List Check
 purgeNamespaceChecks image page = badImage image ∷ badRecord page ∷ []
 
-unfoldable pub purgeNamespace : List ℕ → ThinPage → ℕ → Outcome
+unfoldable pub purgeNamespace : List ℕ → Page → ℕ → Outcome
 purgeNamespace image page namespace = outcome (purgeNamespaceChecks image page) false page page
 
-unfoldable pub purgeNamespaceImage : List ℕ → ThinPage → ℕ → List ℕ
+unfoldable pub purgeNamespaceImage : List ℕ → Page → ℕ → List ℕ
 purgeNamespaceImage image page namespace =
     imageAfter (purgeNamespaceChecks image page) (purgeNamespacePlan image page namespace) image

@@ -19,8 +19,7 @@ use Rattle.sector.specs.Layout.{entryAddress}
 use Rattle.sector.specs.Map.{markRange, mapUnits}
 use Rattle.sector.proofs.Laws.{length-itemBytes, length-sizedData}
 use Rattle.page.specs.declared.Outcome.{Outcome}
-use Rattle.page.specs.declared.ThinPage.{ThinPage}
-use Rattle.page.specs.Record.{nextFree}
+use Rattle.page.specs.Record.{Page, nextFree}
 use Rattle.page.specs.Writing.{answered, outcome, fullUnits, itemPlan}
 use Rattle.page.proofs.Plans.{length-seal-le}
 use Rattle.call_append.specs.declared.Single.{Single}
@@ -64,7 +63,7 @@ refusal-not-stopped (check ∷ checks) e =
     go false false f g h = h g
     go false true f g h = cc
 
-stopped-below : (checks : List Check) (total n : ℕ) (page new : ThinPage) → noneStopped checks ≡ true
+stopped-below : (checks : List Check) (total n : ℕ) (page new : Page) → noneStopped checks ≡ true
     → eqb (numberOf (outcome checks (ltb n total) page new .answer)) 11 ≡ ltb n (cond (accepted checks) total 0)
 stopped-below checks total n page new e = go (accepted checks) (ltb n total) refl
   where
@@ -94,7 +93,7 @@ item-le header start span map payload h room short =
       length-seal-le start span (markRange Written start span map) room,
     )
 
-single-le : (image : List ℕ) (page : ThinPage) (item : Single) → length (item .key) ≡ 16 → length (item .bytes) ≡ 8
+single-le : (image : List ℕ) (page : Page) (item : Single) → length (item .key) ≡ 16 → length (item .bytes) ≡ 8
     → accepted (singleChecks image page item) ≡ true → length (singlePlan page item) ≤ 1100
 unfolding singlePlan itemPlan
 single-le image page item k b h =
@@ -108,7 +107,7 @@ single-le image page item k b h =
       length-seal-le start 1 (markRange Written start 1 (page .map)) (single-room image page item h .room),
     )
 
-variable-le : (image : List ℕ) (page : ThinPage) (item : Variable) (payload : List ℕ) → length (item .key) ≡ 16
+variable-le : (image : List ℕ) (page : Page) (item : Variable) (payload : List ℕ) → length (item .key) ≡ 16
     → accepted (variableChecks image page item payload) ≡ true → length (variablePlan page item payload) ≤ 1100
 unfolding variablePlan
 variable-le image page item payload k h =

@@ -15,8 +15,7 @@ use Rattle.flash.specs.Flash.{Unit4}
 use Rattle.opening.specs.Opening.{opening, openingImage}
 use Rattle.page.specs.declared.Listed.{Listed}
 use Rattle.page.specs.declared.Outcome.{Outcome}
-use Rattle.page.specs.declared.ThinPage.{ThinPage}
-use Rattle.page.specs.Record.{nextFree}
+use Rattle.page.specs.Record.{Page, nextFree}
 use Rattle.sector.specs.Answers.{Check, accepted, numberOf}
 use Rattle.sector.specs.Layout.{entriesPerPage, field, sameBytes}
 use Rattle.cuts_append.specs.declared.Cut.{Cut}
@@ -45,13 +44,13 @@ abbrev pub variableAsked : Request → Variable
 variableAsked request =
     record { namespace = request .namespace; kind = request .kind; chunk = 0xFF; key = request .key }
 
-unfoldable pub appended : List ℕ → ThinPage → Request → List ℕ → ℕ → Outcome
+unfoldable pub appended : List ℕ → Page → Request → List ℕ → ℕ → Outcome
 appended image page request payload n =
     cond (request .single)
     (appendSingle image page (singleAsked request) n)
     (appendVariable image page (variableAsked request) payload n)
 
-unfoldable pub appendedImage : List ℕ → ThinPage → Request → List ℕ → ℕ → List ℕ
+unfoldable pub appendedImage : List ℕ → Page → Request → List ℕ → ℕ → List ℕ
 appendedImage image page request payload n =
     cond (request .single)
     (appendSingleImage image page (singleAsked request) n)
@@ -102,14 +101,14 @@ abbrev pub unitCount : Sector → Request → List ℕ → ℕ
 unitCount before request payload = firstNot (isStopped before request payload) 0 most
 
 -- the checks of the request's append, in 01's order
-abbrev pub requestChecks : List ℕ → ThinPage → Request → List ℕ → List Check
+abbrev pub requestChecks : List ℕ → Page → Request → List ℕ → List Check
 requestChecks image page request payload =
     cond (request .single)
     (singleChecks image page (singleAsked request))
     (variableChecks image page (variableAsked request) payload)
 
 -- the units that the request's append programs
-abbrev pub requestPlan : ThinPage → Request → List ℕ → List Unit4
+abbrev pub requestPlan : Page → Request → List ℕ → List Unit4
 requestPlan page request payload =
     cond (request .single) (singlePlan page (singleAsked request)) (variablePlan page (variableAsked request) payload)
 
@@ -132,7 +131,7 @@ sameList (place ∷ places) [] = false
 sameList (place ∷ places) (other ∷ others) = samePlace place other && sameList places others
 
 -- as many entries used, and the same list
-abbrev pub sameItems : ThinPage → ThinPage → Bool
+abbrev pub sameItems : Page → Page → Bool
 sameItems page other =
     eqb (page .used) (other .used) && (eqb (page .len) (other .len) && sameList (page .list) (other .list))
 

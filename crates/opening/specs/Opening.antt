@@ -10,8 +10,7 @@ use lib.ListN.{length, take, drop, getD}
 use Rattle.flash.specs.Flash.{Unit4, run, allOnes}
 use Rattle.page.specs.declared.Listed.{Listed}
 use Rattle.page.specs.declared.Outcome.{Outcome}
-use Rattle.page.specs.declared.ThinPage.{ThinPage}
-use Rattle.page.specs.Record.{padded, uninitialized}
+use Rattle.page.specs.Record.{Page, padded, uninitialized}
 use Rattle.page.specs.Writing.{answered, stops}
 use Rattle.sector.specs.declared.Answer.the-variants.{Done, BadImage, CorruptedData, Stopped}
 use Rattle.sector.specs.declared.EntryMapState.{EntryMapState}
@@ -99,7 +98,7 @@ openingPlan image =
 -- ---- the call
 
 -- used and erased count the map
-unfoldable pub openedPage : List ℕ → ThinPage
+unfoldable pub openedPage : List ℕ → Page
 openedPage image =
     record {
       state = stateOfWord (stateWord image);

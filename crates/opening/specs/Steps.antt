@@ -7,8 +7,7 @@ use Prim.Native.Nat.{ℕ, zero, _+_}
 use lib.Dec.{eqb}
 use lib.ListN.{length, set}
 use Rattle.page.specs.declared.Listed.{Listed}
-use Rattle.page.specs.declared.ThinPage.{ThinPage}
-use Rattle.page.specs.Record.{padded}
+use Rattle.page.specs.Record.{Page, padded}
 use Rattle.sector.specs.declared.EntryMapState.the-variants.{Written, Erased}
 use Rattle.sector.specs.Header.{stateOfWord}
 use Rattle.sector.specs.Item.{hashOfItem}
@@ -58,7 +57,7 @@ pub record WalkLeaves (image map : List ℕ) (left : Walked) : Type 0 where
   pub listing : left .listing ≡ listingOf (listedItems (keptFrom zero zero (statesOf map) (entriesOf image)))
 
 -- the header's fields, the map with its counts, the list
-unfoldable pub headerRecord : List ℕ → List ℕ → Listing → ThinPage
+unfoldable pub headerRecord : List ℕ → List ℕ → Listing → Page
 headerRecord image map listing =
     record {
       state = stateOfWord (stateWord image);

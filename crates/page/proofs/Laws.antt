@@ -14,8 +14,7 @@ use Rattle.sector.specs.declared.EntryMapState.the-variants.{Written}
 use Rattle.sector.specs.Layout.{entriesPerPage}
 use Rattle.sector.specs.Map.{statesOf, countIn}
 use Rattle.page.specs.declared.Listed.{Listed}
-use Rattle.page.specs.declared.ThinPage.{ThinPage}
-use Rattle.page.specs.Record.{nextFree, noItem, padded, placeFits, placeZero, inUse, countsFit, lengthFits, writtenFits, listedFit, behindZero, blankFits, fitToUse}
+use Rattle.page.specs.Record.{Page, nextFree, noItem, padded, placeFits, placeZero, inUse, countsFit, lengthFits, writtenFits, listedFit, behindZero, blankFits, fitToUse}
 
 -- ---- every
 
@@ -42,7 +41,7 @@ padded-more places place h =
 -- ---- fitness
 
 -- a record that is fit to use, clause by clause
-pub record Fit (page : ThinPage) : Type 0 where
+pub record Fit (page : Page) : Type 0 where
   pub counts : nextFree page ≤ entriesPerPage
   pub len-fits : page .len ≤ nextFree page
   pub written-fits : countIn Written (statesOf (page .map)) ≤ page .used
@@ -50,7 +49,7 @@ pub record Fit (page : ThinPage) : Type 0 where
   pub behind-zero : every placeZero (drop (page .len) (page .list)) ≡ true
   pub blank-fits : blankFits page ≡ true
 
-pub fit-clauses : (page : ThinPage) → fitToUse page ≡ true → Fit page
+pub fit-clauses : (page : Page) → fitToUse page ≡ true → Fit page
 unfolding fitToUse
 fit-clauses page h =
     let counts = and-eq-true-iff (countsFit page) _ .0 h in
@@ -67,7 +66,7 @@ fit-clauses page h =
       blank-fits = behind .1;
     }
 
-pub fit-of : (page : ThinPage) → Fit page → fitToUse page ≡ true
+pub fit-of : (page : Page) → Fit page → fitToUse page ≡ true
 unfolding fitToUse
 fit-of page fit =
     rw (

@@ -15,13 +15,17 @@ use Rattle.sector.specs.Map.{statesOf, countIn, markRange}
 use Rattle.page.specs.declared.Listed.{Listed}
 use Rattle.page.specs.declared.ThinPage.{ThinPage}
 
+-- the record, under the name that all definitions use; the code's struct is ThinPage
+abbrev pub Page : Type 0
+Page = ThinPage
+
 -- ---- entries
 
-abbrev pub nextFree : ThinPage → ℕ
+abbrev pub nextFree : Page → ℕ
 nextFree page = page .used + page .erased
 
 -- 0 where no entry is free
-abbrev pub free : ThinPage → ℕ
+abbrev pub free : Page → ℕ
 free page = entriesPerPage - nextFree page
 
 -- ---- the list
@@ -47,49 +51,49 @@ abbrev pub padded : List Listed → List Listed
 padded places = places ++ replicate (entriesPerPage - length places) noItem
 
 -- the places in use
-abbrev pub inUse : ThinPage → List Listed
+abbrev pub inUse : Page → List Listed
 inUse page = take (page .len) (page .list)
 
 -- ---- fitness
 
 -- used + erased at most 126
-abbrev pub countsFit : ThinPage → Bool
+abbrev pub countsFit : Page → Bool
 countsFit page = leb (nextFree page) entriesPerPage
 
 -- list no longer than used + erased
-abbrev pub lengthFits : ThinPage → Bool
+abbrev pub lengthFits : Page → Bool
 lengthFits page = leb (page .len) (nextFree page)
 
 -- the map's Written entries no more than used
-abbrev pub writtenFits : ThinPage → Bool
+abbrev pub writtenFits : Page → Bool
 writtenFits page = leb (countIn Written (statesOf (page .map))) (page .used)
 
 -- listed indices under 126, hashes under 2^24
-abbrev pub listedFit : ThinPage → Bool
+abbrev pub listedFit : Page → Bool
 listedFit page = every placeFits (inUse page)
 
 -- list places behind its length zero
-abbrev pub behindZero : ThinPage → Bool
+abbrev pub behindZero : Page → Bool
 behindZero page = every placeZero (drop (page .len) (page .list))
 
 -- counts, sequence, version and header CRC 0, list empty, map all 0xFF
-abbrev pub isBlank : ThinPage → Bool
+abbrev pub isBlank : Page → Bool
 isBlank page =
     eqb (page .used) 0 && (eqb (page .erased) 0 && (eqb (page .sequence) 0 && (eqb (page .version) 0
     && (eqb (page .crc) 0 && (eqb (page .len) 0 && allOnes (page .map))))))
 
 -- if Uninitialized, blank
-abbrev pub blankFits : ThinPage → Bool
+abbrev pub blankFits : Page → Bool
 blankFits page = not (isUninitialized (page .state)) || isBlank page
 
-unfoldable pub fitToUse : ThinPage → Bool
+unfoldable pub fitToUse : Page → Bool
 fitToUse page =
     countsFit page && (lengthFits page && (writtenFits page && (listedFit page && (behindZero page && blankFits page))))
 
 -- ---- records
 
 -- of a page whose bytes are all 0xFF; a refused opening hands it back too
-abbrev pub uninitialized : ThinPage
+abbrev pub uninitialized : Page
 uninitialized =
     record {
       state = Uninitialized;
@@ -104,7 +108,7 @@ uninitialized =
     }
 
 -- an item of `span` entries at next free: marked, counted, listed unless in namespace 0, and Full where no entry is free then
-unfoldable pub withItem : ThinPage → ℕ → ℕ → ℕ → ThinPage
+unfoldable pub withItem : Page → ℕ → ℕ → ℕ → Page
 withItem page span namespace hash =
     record {
       state = cond (eqb (nextFree page + span) entriesPerPage) Full (page .state);
@@ -119,7 +123,7 @@ withItem page span namespace hash =
     }
 
 -- `span` entries from an index on erased, and the list without that index
-unfoldable pub withErased : ThinPage → ℕ → ℕ → ThinPage
+unfoldable pub withErased : Page → ℕ → ℕ → Page
 withErased page index span =
     record {
       state = page .state;

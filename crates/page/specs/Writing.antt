@@ -17,8 +17,7 @@ use Rattle.sector.specs.Header.{stateBytes, isActive}
 use Rattle.sector.specs.Layout.{sectorSize, entriesPerPage}
 use Rattle.sector.specs.Map.{markRange, mapUnits}
 use Rattle.page.specs.declared.Outcome.{Outcome}
-use Rattle.page.specs.declared.ThinPage.{ThinPage}
-use Rattle.page.specs.Record.{fitToUse, free}
+use Rattle.page.specs.Record.{Page, fitToUse, free}
 
 -- ---- checks
 
@@ -27,24 +26,24 @@ abbrev pub badImage : List ℕ → Check
 badImage image = (not (eqb (length image) sectorSize), BadImage)
 
 -- record not fit
-abbrev pub badRecord : ThinPage → Check
+abbrev pub badRecord : Page → Check
 badRecord page = (not (fitToUse page), BadRecord)
 
 -- append, copy target, mark full: not Active
-abbrev pub notActive : ThinPage → Check
+abbrev pub notActive : Page → Check
 notActive page = (not (isActive (page .state)), WrongState)
 
 -- span over free
-abbrev pub overFree : ThinPage → ℕ → Check
+abbrev pub overFree : Page → ℕ → Check
 overFree page span = (ltb (free page) span, PageFull)
 
 -- ---- a call's result
 
-abbrev pub answered : Answer → ThinPage → Outcome
+abbrev pub answered : Answer → Page → Outcome
 answered answer page = record { answer = answer; page = page }
 
 -- the first refusal, or Stopped, with the incoming record; else Done with the new one
-abbrev pub outcome : List Check → Bool → ThinPage → ThinPage → Outcome
+abbrev pub outcome : List Check → Bool → Page → Page → Outcome
 outcome checks stopped page new =
     cond (accepted checks) (cond stopped (answered Stopped page) (answered Done new)) (answered (refusal checks) page)
 

@@ -8,7 +8,7 @@ use lib.ListN.{length, take}
 use lib.Seq.{take-all}
 use borrow.Author.Tests.{ltb-false}
 use Rattle.flash.specs.Flash.{Unit4, every}
-use Rattle.page.specs.declared.ThinPage.{ThinPage}
+use Rattle.page.specs.Record.{Page}
 use Rattle.page.specs.Writing.{outcome, stops}
 use Rattle.sector.specs.declared.Answer.the-variants.{Done, Stopped}
 use Rattle.sector.specs.Answers.{Check, accepted}
@@ -17,7 +17,7 @@ use Rattle.theorem_writing.proofs.Answers.{answersRefusal, checks-refuse, stopp
 use Rattle.theorem_power_cut.specs.History.{AppendOrCopy, callOf, putRequest}
 use Rattle.theorem_power_cut.specs.PowerCut.{Begins}
 
-module _ (checks : List Check) (refuse : every answersRefusal checks ≡ true) (stopped : Bool) (page new : ThinPage) where
+module _ (checks : List Check) (refuse : every answersRefusal checks ≡ true) (stopped : Bool) (page new : Page) where
   pub begins-accepted : (outcome checks stopped page new .answer ≡ Done) ⊎ (outcome checks stopped page new .answer ≡ Stopped) → accepted checks ≡ true
   begins-accepted (inl d) = done-only checks refuse stopped page new d .0
   begins-accepted (inr s) = stopped-only checks refuse stopped page new s .0
@@ -33,7 +33,7 @@ pub done-plan : (n : ℕ) (plan : List Unit4) → stops n plan ≡ false → tak
 done-plan n plan e = take-all n plan (ltb-false n (length plan) e)
 
 -- a write that begins is accepted
-pub write-accepted : (write : AppendOrCopy) (image : List ℕ) (page : ThinPage) (n : ℕ) → Begins write image page n → accepted (checksOf (callOf write) image page) ≡ true
+pub write-accepted : (write : AppendOrCopy) (image : List ℕ) (page : Page) (n : ℕ) → Begins write image page n → accepted (checksOf (callOf write) image page) ≡ true
 write-accepted write image page n b =
     begins-accepted (checksOf (callOf write) image page) (checks-refuse (callOf write) image page) (stops n (planOf (callOf write) image page)) page (newOf (callOf write) page)
     (rw (told-put (putRequest write) image page n .0) at b)

@@ -11,8 +11,7 @@ use lib.Dec.{eqb}
 use lib.ListN.{length, take, drop, getD, set, replicate, length-append, length-drop}
 use lib.Seq.{take-append-le, drop-append-le, drop-drop, getD-take, getD-drop, take-at}
 use Rattle.page.specs.declared.Listed.{Listed}
-use Rattle.page.specs.declared.ThinPage.{ThinPage}
-use Rattle.page.specs.Record.{padded, withItem}
+use Rattle.page.specs.Record.{Page, padded, withItem}
 use Rattle.page.proofs.Laws.{padded-more}
 use Rattle.sector.specs.declared.EntryMapState.{EntryMapState}
 use Rattle.sector.specs.declared.EntryMapState.the-variants.{Empty, Written, Erased}
@@ -43,7 +42,7 @@ version-front front rest size =
 -- ---- the record of a page that stands
 
 -- from the header, the map, the states of the entries in use and the items
-abbrev pub pageOf : List ℕ → List ℕ → States → List Item → ThinPage
+abbrev pub pageOf : List ℕ → List ℕ → States → List Item → Page
 pageOf header map front items =
     record {
       state = stateOfWord (stateWord header);

@@ -10,8 +10,7 @@ use lib.ListN.{length, replicate}
 use borrow.Author.Tests.{eq-eqb}
 use Rattle.flash.specs.Flash.{run}
 use Rattle.flash.proofs.Laws.{all-ones-replicate, Outside, outside-within, outside-append, outside-take, take-drop-run}
-use Rattle.page.specs.declared.ThinPage.{ThinPage}
-use Rattle.page.specs.Record.{nextFree, uninitialized, withErased}
+use Rattle.page.specs.Record.{Page, nextFree, uninitialized, withErased}
 use Rattle.page.specs.Writing.{answered, itemPlan}
 use Rattle.sector.specs.declared.Answer.the-variants.{Done}
 use Rattle.sector.specs.Header.{stateOfWord}
@@ -38,17 +37,17 @@ use Rattle.theorem_power_cut.proofs.Erasing.{some, fits, run-erase, era
 -- ---- every point of a history is known
 
 -- a write begins on a page that is held, not on an erased one: so what follows of the page at hand holds
-begun : {image : List ℕ} {page : ThinPage} {items : List Item} (write : AppendOrCopy) (n : ℕ) (holds : ThinPage → Type 0)
+begun : {image : List ℕ} {page : Page} {items : List Item} (write : AppendOrCopy) (n : ℕ) (holds : Page → Type 0)
     → ((p : Standing image items) → HeaderOpens image → Started p write n → holds (at-hand p))
     → Known image page items → Begins write image page n → holds page
 begun {image} write n holds follows (held h) b =
-    subst (λ (page : ThinPage). Begins write image page n → holds page) (sym (h .page-is))
+    subst (λ (page : Page). Begins write image page n → holds page) (sym (h .page-is))
     (λ b. follows (h .standing) (h .opens) (started (h .standing) write n b))
     b
 begun {image} write n holds follows (blank i p e) b =
-    absurd (blank-refuses write image n (subst (λ (page : ThinPage). Begins write image page n) p b))
+    absurd (blank-refuses write image n (subst (λ (page : Page). Begins write image page n) p b))
 
-written-known : {image : List ℕ} {page : ThinPage} {items : List Item} → Known image page items → (write : AppendOrCopy) (n : ℕ)
+written-known : {image : List ℕ} {page : Page} {items : List Item} → Known image page items → (write : AppendOrCopy) (n : ℕ)
     → outcomeOf (callOf write) image page n .answer ≡ Done
     → Known (imageOf (callOf write) image page n) (outcomeOf (callOf write) image page n .page) (items ++ (newItem write page ∷ []))
 written-known {image} {items = items} k write n d =
@@ -58,12 +57,12 @@ written-known {image} {items = items} k write n d =
     (λ p o s d. held (done-held p o s d)) k (inl d) d
 
 -- an item is erased of a page that is held, too
-erasure : {image : List ℕ} {page : ThinPage} {items : List Item} (index : ℕ) (entries : List (List ℕ)) (holds : ThinPage → Type 0)
+erasure : {image : List ℕ} {page : Page} {items : List Item} (index : ℕ) (entries : List (List ℕ)) (holds : Page → Type 0)
     → List·Memᴰ (item index entries) items
     → ((p : Standing image items) → HeaderOpens image → erase image (at-hand p) index (length entries) .answer ≡ Done → holds (at-hand p))
     → Known image page items → erase image page index (length entries) .answer ≡ Done → holds page
 erasure {image} index entries holds m follows (held h) d =
-    subst (λ (page : ThinPage). erase image page index (length entries) .answer ≡ Done → holds page) (sym (h .page-is)) (follows (h .standing) (h .opens)) d
+    subst (λ (page : Page). erase image page index (length entries) .answer ≡ Done → holds page) (sym (h .page-is)) (follows (h .standing) (h .opens)) d
 erasure index entries holds m follows (blank i p e) d = absurd (List·Memᴰ·not-nil (subst (List·Memᴰ (item index entries)) e m))
 
 module _ {image : List ℕ} {items : List Item} (p : Standing image items) (index : ℕ) (entries : List (List ℕ)) where
@@ -88,7 +87,7 @@ module _ {image : List ℕ} {items : List Item} (p : Standing image items) (inde
         page-is = with-erased p index entries m;
       }
 
-erased-known : {image : List ℕ} {page : ThinPage} {items : List Item} → Known image page items → (index : ℕ) (entries : List (List ℕ))
+erased-known : {image : List ℕ} {page : Page} {items : List Item} → Known image page items → (index : ℕ) (entries : List (List ℕ))
     → List·Memᴰ (item index entries) items → erase image page index (length entries) .answer ≡ Done
     → Known (eraseImage image page index (length entries)) (erase image page index (length entries) .page) (withoutItem index items)
 erased-known {image} {items = items} k index entries m d =
@@ -96,20 +95,20 @@ erased-known {image} {items = items} k index entries m d =
     (λ page. Known (eraseImage image page index (length entries)) (erase image page index (length entries) .page) (withoutItem index items)) m
     (λ p o d. rw (erase-image p index entries d, erase-page p index entries d) (held (erased-held p index entries m o))) k d
 
-pub known : {image : List ℕ} {page : ThinPage} {items : List Item} → History image page items → Known image page items
+pub known : {image : List ℕ} {page : Page} {items : List Item} → History image page items → Known image page items
 known (opened {image} sector d) = opened-known image sector d
 known (written write n h d) = written-known (known h) write n d
 known (erased index entries h m d) = erased-known (known h) index entries m d
 
 -- ---- the demand
 
-pub held-opening : {image : List ℕ} {page : ThinPage} {items : List Item} → Held image page items → opening image ≡ answered Done page
+pub held-opening : {image : List ℕ} {page : Page} {items : List Item} → Held image page items → opening image ≡ answered Done page
 unfolding opening
 held-opening {image} h =
     rw (eq-eqb (length image) 4096 (standing-size (h .standing)), opens-of image (h .opens))
     (ap (answered Done) (standing-page (h .standing) ∙ sym (h .page-is)))
 
-pub held-image : {image : List ℕ} {page : ThinPage} {items : List Item} → Held image page items → openingImage image ≡ image
+pub held-image : {image : List ℕ} {page : Page} {items : List Item} → Held image page items → openingImage image ≡ image
 unfolding openingImage run
 held-image {image} h = rw (eq-eqb (length image) 4096 (standing-size (h .standing)), opens-of image (h .opens), standing-plan (h .standing))
 

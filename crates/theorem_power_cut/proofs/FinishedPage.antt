@@ -14,8 +14,7 @@ use Rattle.crc.proofs.Laws.{crc-lt}
 use Rattle.flash.specs.Flash.{every, allOnes}
 use Rattle.flash.proofs.Laws.{Bytes, bytes-append, bytes-ones, replicate-all-ones}
 use Rattle.page.specs.declared.Listed.{Listed}
-use Rattle.page.specs.declared.ThinPage.{ThinPage}
-use Rattle.page.specs.Record.{noItem, placeZero, isBlank, fitToUse, uninitialized}
+use Rattle.page.specs.Record.{Page, noItem, placeZero, isBlank, fitToUse, uninitialized}
 use Rattle.page.specs.Writing.{answered, outcome, stops}
 use Rattle.page.proofs.Checks.{accepted-usable}
 use Rattle.page.proofs.Laws.{fit-clauses}
@@ -117,7 +116,7 @@ zero-list (place ∷ list) e =
     ap₂ (λ (first : Listed) (rest : List Listed). first ∷ rest) (zero-place place (both .0)) (zero-list list (both .1))
 
 -- initialised, it is what the Uninitialized record becomes
-initialised-blank : (page : ThinPage) (sequence : ℕ) → AsInCode page → fitToUse page ≡ true → isUninitialized (page .state) ≡ true
+initialised-blank : (page : Page) (sequence : ℕ) → AsInCode page → fitToUse page ≡ true → isUninitialized (page .state) ≡ true
     → initialised uninitialized sequence ≡ initialised page sequence
 unfolding initialised
 initialised-blank page sequence code fit none =

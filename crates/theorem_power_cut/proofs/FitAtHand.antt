@@ -12,8 +12,7 @@ use lib.Seq.{take-append-seam, drop-append-seam}
 use borrow.Author.Tests.{lt-ltb}
 use Rattle.flash.specs.Flash.{every, allOnes}
 use Rattle.page.specs.declared.Listed.{Listed}
-use Rattle.page.specs.declared.ThinPage.{ThinPage}
-use Rattle.page.specs.Record.{noItem, placeFits, placeZero, uninitialized, fitToUse}
+use Rattle.page.specs.Record.{Page, noItem, placeFits, placeZero, uninitialized, fitToUse}
 use Rattle.page.proofs.Laws.{fit-of}
 use Rattle.sector.specs.declared.EntryMapState.the-variants.{Empty, Written}
 use Rattle.sector.specs.Header.{stateOfWord, isInUse}
@@ -101,7 +100,7 @@ module _ {image : List ℕ} {items : List Item} (p : Standing image items) where
       ∙ countIn-append Written (p .front) (replicate (p .spare) Empty)
       ∙ omega (arith, count-none Written Empty (p .spare) refl)
 
-held-fit : {image : List ℕ} {page : ThinPage} {items : List Item} → Held image page items → fitToUse page ≡ true
+held-fit : {image : List ℕ} {page : Page} {items : List Item} → Held image page items → fitToUse page ≡ true
 held-fit {items = items} h =
     let p = h .standing in
     let places = listedItems items in

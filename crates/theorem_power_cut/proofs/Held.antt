@@ -12,8 +12,7 @@ use lib.Seq.{take-at, length-take-le}
 use borrow.Author.Tests.{eq-eqb}
 use Rattle.flash.specs.Flash.{run, allOnes}
 use Rattle.flash.proofs.Laws.{Bytes, replicate-all-ones}
-use Rattle.page.specs.declared.ThinPage.{ThinPage}
-use Rattle.page.specs.Record.{uninitialized}
+use Rattle.page.specs.Record.{Page, uninitialized}
 use Rattle.sector.specs.declared.Answer.the-variants.{Done}
 use Rattle.sector.specs.Layout.{mapOf, entriesOf}
 use Rattle.sector.proofs.Marks.{image-parts, mapOf-parts}
@@ -31,13 +30,13 @@ use Rattle.theorem_power_cut.proofs.Headers.{HeaderOpens, opens-facts, 
 
 -- ---- a page that is held
 
-pub record Held (image : List ℕ) (page : ThinPage) (items : List Item) : Type 0 where
+pub record Held (image : List ℕ) (page : Page) (items : List Item) : Type 0 where
   pub standing : Standing image items
   pub opens : HeaderOpens image
   pub page-is : page ≡ pageOf (standing .header) (standing .map) (standing .front) items
 
 -- an erased page holds nothing, and every call on its record is refused
-pub data Known (image : List ℕ) (page : ThinPage) (items : List Item) : Type 0 where
+pub data Known (image : List ℕ) (page : Page) (items : List Item) : Type 0 where
   held : Held image page items → Known image page items
   blank : image ≡ replicate 4096 0xFF → page ≡ uninitialized → items ≡ [] → Known image page items
 

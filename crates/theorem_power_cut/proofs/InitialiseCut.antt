@@ -15,8 +15,7 @@ use borrow.Author.Tests.{eqb-true, not-false}
 use Rattle.crc.specs.Crc.{crc32}
 use Rattle.flash.specs.Flash.{Unit4, units, run, program, allOnes}
 use Rattle.flash.proofs.Laws.{Bytes, bytes-append, bytes-ones, bytes-take, length-units-whole, program-erased, run-take-units}
-use Rattle.page.specs.declared.ThinPage.{ThinPage}
-use Rattle.page.specs.Record.{fitToUse, uninitialized}
+use Rattle.page.specs.Record.{Page, fitToUse, uninitialized}
 use Rattle.page.specs.Writing.{answered, imageAfter}
 use Rattle.sector.proofs.Laws.{accepted-head}
 use Rattle.page.proofs.Checks.{accepted-usable}
@@ -140,13 +139,13 @@ blank-cut sequence (suc (suc (suc (suc (suc (suc (suc (suc n)))))))) =
 -- ---- any call that is not refused
 
 -- it finds the page erased
-pub erased-image : (image : List ℕ) (page : ThinPage) → accepted (initialiseChecks image page) ≡ true → image ≡ blank
+pub erased-image : (image : List ℕ) (page : Page) → accepted (initialiseChecks image page) ≡ true → image ≡ blank
 erased-image image page ok =
     let usable = accepted-usable image page (not (isUninitialized (page .state))) ((not (allOnes image), CorruptedData) ∷ []) ok in
     blank-image image (usable .whole) (not-false _ (accepted-head (not (allOnes image)) CorruptedData [] (usable .rest)))
 
 -- and leaves what it leaves of the Uninitialized record
-pub same-image : (image : List ℕ) (page : ThinPage) (sequence n : ℕ) → accepted (initialiseChecks image page) ≡ true
+pub same-image : (image : List ℕ) (page : Page) (sequence n : ℕ) → accepted (initialiseChecks image page) ≡ true
     → initialiseImage image page sequence n ≡ initialiseImage blank uninitialized sequence n
 unfolding initialiseImage
 same-image image page sequence n ok =

@@ -11,7 +11,7 @@ use native.Mathlib.Omega.{arith}
 use lib.ListN.{length, take, drop, replicate, length-take, length-drop, length-replicate}
 use lib.Seq.{take-take, take-append-le}
 use borrow.Author.Tests.{eq-eqb, ne-eqb, lt-ltb, le-ltb, ltb-false}
-use Rattle.page.specs.declared.ThinPage.{ThinPage}
+use Rattle.page.specs.Record.{Page}
 use Rattle.sector.specs.declared.Answer.the-variants.{Done}
 use Rattle.sector.specs.Answers.{accepted}
 use Rattle.sector.specs.Item.{loads}
@@ -126,7 +126,7 @@ module _ {index : ℕ} {group : Entries} (image : List ℕ) (size : length image
 
 -- ---- every history
 
-known-size : {image : List ℕ} {page : ThinPage} {items : List Item} → Known image page items → length image ≡ 4096
+known-size : {image : List ℕ} {page : Page} {items : List Item} → Known image page items → length image ≡ 4096
 known-size (held h) = standing-size (h .standing)
 known-size (blank i p e) = rw (i, length-replicate)
 

@@ -11,8 +11,7 @@ use lib.ListN.{length, take, replicate}
 use lib.Seq.{take-at}
 use borrow.Author.Tests.{not-false}
 use Rattle.flash.specs.Flash.{Unit4, run}
-use Rattle.page.specs.declared.ThinPage.{ThinPage}
-use Rattle.page.specs.Record.{nextFree, withItem}
+use Rattle.page.specs.Record.{Page, nextFree, withItem}
 use Rattle.page.specs.Writing.{overFree, itemPlan, stops, outcome}
 use Rattle.page.proofs.Checks.{accepted-usable}
 use Rattle.page.proofs.Laws.{fit-clauses}
@@ -56,7 +55,7 @@ is-active Corrupt e = cc
 is-active Invalid e = cc
 
 -- namespace and hash of a new item, read off its bytes
-item-read : (page : ThinPage) (entries namespace kind span chunk : ℕ) (key bytes : List ℕ) → length key ≡ 16
+item-read : (page : Page) (entries namespace kind span chunk : ℕ) (key bytes : List ℕ) → length key ≡ 16
     → let entry = itemBytes namespace kind span chunk key bytes in
     withItem page entries namespace (hashOf namespace key chunk) ≡ withItem page entries (namespaceOf entry) (hashOfItem entry)
 unfolding itemBytes
@@ -64,7 +63,7 @@ item-read page entries namespace kind span chunk key bytes size =
     ap (λ (k : List ℕ). withItem page entries namespace (hashOf namespace k chunk)) (sym (take-at key bytes 16 size))
 
 module _ {image : List ℕ} {items : List Item} (p : Standing image items) where
-  abbrev pub page : ThinPage
+  abbrev pub page : Page
   page = pageOf (p .header) (p .map) (p .front) items
 
   abbrev pub start : ℕ
@@ -152,7 +151,7 @@ module _ {image : List ℕ} {items : List Item} (p : Standing image items) where
     abbrev planned : List Unit4
     planned = planOf (callOf write) image page
 
-    abbrev made : ThinPage
+    abbrev made : Page
     made = newOf (callOf write) page
 
     outcome-is : outcomeOf (callOf write) image page n ≡ outcome checks (stops n planned) page made

@@ -10,8 +10,7 @@ use Prim.Native.Nat.{ℕ, _-_, _*_, _<_}
 use lib.Dec.{ltb, eqb}
 use lib.ListN.{length, replicate}
 use Rattle.flash.specs.Flash.{every}
-use Rattle.page.specs.declared.ThinPage.{ThinPage}
-use Rattle.page.specs.Record.{nextFree}
+use Rattle.page.specs.Record.{Page, nextFree}
 use Rattle.sector.specs.declared.Answer.the-variants.{Done}
 use Rattle.sector.specs.Layout.{sectorSize, entrySize, chunks}
 use Rattle.call_append.specs.declared.Single.{Single}
@@ -87,7 +86,7 @@ entriesOfWrite (a-variable request payload ok) =
 entriesOfWrite (a-copy source index entries ok) = entries
 
 -- the new item: next free is its index
-abbrev pub newItem : AppendOrCopy → ThinPage → Item
+abbrev pub newItem : AppendOrCopy → Page → Item
 newItem write page = item (nextFree page) (entriesOfWrite write)
 
 -- ---- histories
@@ -97,13 +96,13 @@ abbrev pub withoutItem : ℕ → List Item → List Item
 withoutItem index [] = []
 withoutItem index (item i entries ∷ items) = cond (eqb i index) (withoutItem index items) (item i entries ∷ withoutItem index items)
 
-pub data History : List ℕ → ThinPage → List Item → Type 0 where
+pub data History : List ℕ → Page → List Item → Type 0 where
   opened : {image : List ℕ} → Sector image → opening image .answer ≡ Done
       → History (openingImage image) (opening image .page) (keptItems image)
-  written : {image : List ℕ} {page : ThinPage} {items : List Item} (write : AppendOrCopy) (n : ℕ) → History image page items
+  written : {image : List ℕ} {page : Page} {items : List Item} (write : AppendOrCopy) (n : ℕ) → History image page items
       → outcomeOf (callOf write) image page n .answer ≡ Done
       → History (imageOf (callOf write) image page n) (outcomeOf (callOf write) image page n .page) (items ++ (newItem write page ∷ []))
-  erased : {image : List ℕ} {page : ThinPage} {items : List Item} (index : ℕ) (entries : List (List ℕ)) → History image page items
+  erased : {image : List ℕ} {page : Page} {items : List Item} (index : ℕ) (entries : List (List ℕ)) → History image page items
       → List·Memᴰ (item index entries) items
       → erase image page index (length entries) .answer ≡ Done
       → History (eraseImage image page index (length entries)) (erase image page index (length entries) .page) (withoutItem index items)

@@ -12,8 +12,7 @@ use mathlib.Core.Logic.{_⊎_}
 use Prim.Native.Nat.{ℕ, _+_, _≤_, _<_}
 use lib.Dec.{leb}
 use lib.ListN.{length, take, drop}
-use Rattle.page.specs.declared.ThinPage.{ThinPage}
-use Rattle.page.specs.Record.{nextFree, fitToUse, uninitialized}
+use Rattle.page.specs.Record.{Page, nextFree, fitToUse, uninitialized}
 use Rattle.page.specs.Writing.{answered}
 use Rattle.sector.specs.declared.Answer.the-variants.{Done, CorruptedData, Stopped}
 use Rattle.sector.specs.Answers.{accepted}
@@ -34,20 +33,20 @@ use Rattle.theorem_power_cut.specs.History.{Sector, VariableRequest, App
 -- at any point of a history opening is accepted, finds exactly the items put and not erased, hands back exactly the record at hand, and changes no byte
 abbrev pub FindsWhatWasPut : Type 0
 FindsWhatWasPut =
-    (image : List ℕ) (page : ThinPage) (items : List Item) → History image page items
+    (image : List ℕ) (page : Page) (items : List Item) → History image page items
     → (keptItems image ≡ items) × (opening image ≡ answered Done page) × (openingImage image ≡ image)
 
 -- each item put and not erased loads by its index
 abbrev pub LoadsWhatWasPut : Type 0
 LoadsWhatWasPut =
-    (image : List ℕ) (page : ThinPage) (items : List Item) → History image page items
+    (image : List ℕ) (page : Page) (items : List Item) → History image page items
     → (index : ℕ) (entries : List (List ℕ)) → List·Memᴰ (item index entries) items
     → loadItem image index ≡ record { answer = Done; item = sanitized (headerOf entries) }
 
 -- and data with its bytes, into any output that takes them
 abbrev pub LoadsData : Type 0
 LoadsData =
-    (image : List ℕ) (page : ThinPage) (items : List Item) → History image page items
+    (image : List ℕ) (page : Page) (items : List Item) → History image page items
     → (request : Variable) (payload : List ℕ) (ok : VariableRequest request payload) (index : ℕ)
     → hasPayload (itemType (request .kind)) ≡ true
     → List·Memᴰ (item index (entriesOfWrite (a-variable request payload ok))) items
@@ -57,17 +56,17 @@ LoadsData =
 
 -- the record at hand is fit to use, right after opening too: no call refuses it as BadRecord
 abbrev pub RecordIsFit : Type 0
-RecordIsFit = (image : List ℕ) (page : ThinPage) (items : List Item) → History image page items → fitToUse page ≡ true
+RecordIsFit = (image : List ℕ) (page : Page) (items : List Item) → History image page items → fitToUse page ≡ true
 
 -- a write begins: no check refuses it
-abbrev pub Begins : AppendOrCopy → List ℕ → ThinPage → ℕ → Type 0
+abbrev pub Begins : AppendOrCopy → List ℕ → Page → ℕ → Type 0
 Begins write image page n = (outcomeOf (callOf write) image page n .answer ≡ Done) ⊎ (outcomeOf (callOf write) image page n .answer ≡ Stopped)
 
 -- one more append or copy, cut after any n: opening is accepted; it finds the earlier items where n is at or before the last entry unit,
 -- and those and the new one, whole, from the first entry-map unit on
 abbrev pub AbsentOrWhole : Type 0
 AbsentOrWhole =
-    (image : List ℕ) (page : ThinPage) (items : List Item) → History image page items
+    (image : List ℕ) (page : Page) (items : List Item) → History image page items
     → (write : AppendOrCopy) (n : ℕ) → Begins write image page n
     → (opening (imageOf (callOf write) image page n) .answer ≡ Done)
     × (keptItems (imageOf (callOf write) image page n)
@@ -76,7 +75,7 @@ AbsentOrWhole =
 -- no write of it, at any n, sets a cleared bit or alters another entry's bytes
 abbrev pub AltersNoOtherEntry : Type 0
 AltersNoOtherEntry =
-    (image : List ℕ) (page : ThinPage) (items : List Item) → History image page items
+    (image : List ℕ) (page : Page) (items : List Item) → History image page items
     → (write : AppendOrCopy) (n : ℕ) → Begins write image page n
     → SetsNoBit image (imageOf (callOf write) image page n)
     × ((i : ℕ) → i < entriesPerPage → (i < nextFree page) ⊎ (nextFree page + length (entriesOfWrite write) ≤ i)
@@ -85,7 +84,7 @@ AltersNoOtherEntry =
 -- nor does an erasure set a cleared bit, and it alters no entry's bytes
 abbrev pub ErasesMarksAlone : Type 0
 ErasesMarksAlone =
-    (image : List ℕ) (page : ThinPage) (items : List Item) → History image page items
+    (image : List ℕ) (page : Page) (items : List Item) → History image page items
     → (index : ℕ) (entries : List (List ℕ)) → List·Memᴰ (item index entries) items
     → erase image page index (length entries) .answer ≡ Done
     → SetsNoBit image (eraseImage image page index (length entries))
@@ -96,7 +95,7 @@ ErasesMarksAlone =
 -- initialise begun and cut after any n: the page opens as Uninitialized, as CorruptedData, or is the finished page
 abbrev pub InitialiseCut : Type 0
 InitialiseCut =
-    (image : List ℕ) (page : ThinPage) (sequence n : ℕ) → sequence < 0x1_0000_0000 → accepted (initialiseChecks image page) ≡ true
+    (image : List ℕ) (page : Page) (sequence n : ℕ) → sequence < 0x1_0000_0000 → accepted (initialiseChecks image page) ≡ true
     → (opening (initialiseImage image page sequence n) ≡ answered Done uninitialized)
     ⊎ ((opening (initialiseImage image page sequence n) ≡ answered CorruptedData uninitialized)
     ⊎ (initialiseImage image page sequence n ≡ initialiseImage image page sequence (length (initialisePlan sequence))))
@@ -104,7 +103,7 @@ InitialiseCut =
 -- the finished page opens with the record that initialise hands back; it holds no item, and opening changes no byte: it is as opening leaves a page
 abbrev pub FinishedPageOpens : Type 0
 FinishedPageOpens =
-    (image : List ℕ) (page : ThinPage) (sequence n : ℕ) → sequence < 0x1_0000_0000 → AsInCode page → initialise image page sequence n .answer ≡ Done
+    (image : List ℕ) (page : Page) (sequence n : ℕ) → sequence < 0x1_0000_0000 → AsInCode page → initialise image page sequence n .answer ≡ Done
     → (opening (initialiseImage image page sequence n) ≡ initialise image page sequence n)
     × (keptItems (initialiseImage image page sequence n) ≡ [])
     × (openingImage (initialiseImage image page sequence n) ≡ initialiseImage image page sequence n)

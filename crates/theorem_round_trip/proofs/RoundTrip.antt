@@ -9,8 +9,7 @@ use lib.Seq.{take-at, drop-append-add, getD-append-add, drop-cons, drop-drop, le
 use borrow.Author.Tests.{leb-true, lt-leb}
 use Rattle.flash.proofs.Laws.{Bytes, bytes-nil, bytes-cons, bytes-of-getD, bytes-take, bytes-drop}
 use Rattle.page.specs.declared.Listed.{Listed}
-use Rattle.page.specs.declared.ThinPage.{ThinPage}
-use Rattle.page.specs.Record.{noItem, fitToUse}
+use Rattle.page.specs.Record.{Page, noItem, fitToUse}
 use Rattle.sector.specs.declared.PageState.{PageState}
 use Rattle.sector.specs.declared.PageState.the-variants.{Uninitialized, Active, Full, Freeing, Corrupt, Invalid}
 use Rattle.sector.specs.Layout.{number, littleEndian, field}
@@ -92,7 +91,7 @@ placesBytes-of (suc n) bytes small h =
 
 -- ---- records
 
-abbrev thin : PageState → ℕ → ℕ → ℕ → List ℕ → ℕ → ℕ → ℕ → List Listed → ThinPage
+abbrev thin : PageState → ℕ → ℕ → ℕ → List ℕ → ℕ → ℕ → ℕ → List Listed → Page
 thin state sequence version crc map used erased len list =
     record {
       state = state;

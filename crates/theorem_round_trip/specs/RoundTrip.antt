@@ -7,13 +7,12 @@ use mathlib.Core.Bool.{true, false}
 use mathlib.Core.List.{List}
 use Prim.Native.Nat.{ℕ, _^_, _<_}
 use lib.ListN.{length, getD}
-use Rattle.page.specs.declared.ThinPage.{ThinPage}
-use Rattle.page.specs.Record.{noItem, fitToUse}
+use Rattle.page.specs.Record.{Page, noItem, fitToUse}
 use Rattle.sector.specs.Layout.{entriesPerPage}
 use Rattle.boundary_encoding.specs.Encoding.{isState, recordSize, recordBytes, recordOf}
 
 -- what the fields of a record in memory have room for
-pub record Holds (page : ThinPage) : Type 0 where
+pub record Holds (page : Page) : Type 0 where
   pub sequence : page .sequence < 2 ^ 32
   pub crc : page .crc < 2 ^ 32
   pub map : length (page .map) ≡ 32
@@ -22,7 +21,7 @@ pub record Holds (page : ThinPage) : Type 0 where
 
 -- a record comes back from its bytes
 abbrev pub RecordComesBack : Type 0
-RecordComesBack = (page : ThinPage) → Holds page → recordOf (recordBytes page) ≡ page
+RecordComesBack = (page : Page) → Holds page → recordOf (recordBytes page) ≡ page
 
 -- 675 bytes, of which the first is a state, come back from the record that they hold
 abbrev pub BytesComeBack : Type 0

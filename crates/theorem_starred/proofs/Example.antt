@@ -15,8 +15,7 @@ use Rattle.flash.specs.Flash.{allOnes, program, units, run}
 use Rattle.call_page_state.specs.Calls.{initialised, initialisePlan, initialiseImage}
 use Rattle.opening_marks.specs.Marks.{changedUnits}
 use Rattle.opening.specs.Opening.{headerVerdictOf, keptItems, openedMap, firstMap, openingPlan, openedPage, opening, openingImage}
-use Rattle.page.specs.declared.ThinPage.{ThinPage}
-use Rattle.page.specs.Record.{nextFree, fitToUse, withItem, without, withErased}
+use Rattle.page.specs.Record.{Page, nextFree, fitToUse, withItem, without, withErased}
 use Rattle.page.specs.Writing.{itemPlan}
 use Rattle.opening_reading.specs.Reading.{headerRefusal, payloadRefusal, Item, item, openedStates}
 use Rattle.sector.specs.declared.Answer.the-variants.{Done}
@@ -46,28 +45,28 @@ asked-sized = record { namespace = omega arith; kind = omega arith; chunk = omeg
 abbrev image₀ : List ℕ
 image₀ = openingImage freshImage
 
-abbrev page₀ : ThinPage
+abbrev page₀ : Page
 page₀ = opening freshImage .page
 
 -- a single entry is put
 abbrev image₁ : List ℕ
 image₁ = appendSingleImage image₀ page₀ single 9
 
-abbrev page₁ : ThinPage
+abbrev page₁ : Page
 page₁ = appendSingle image₀ page₀ single 9 .page
 
 -- 33 bytes are put
 abbrev image₂ : List ℕ
 image₂ = appendVariableImage image₁ page₁ sized payload 18
 
-abbrev page₂ : ThinPage
+abbrev page₂ : Page
 page₂ = appendVariable image₁ page₁ sized payload 18 .page
 
 -- the single entry of another page, this one as it was then, is copied in
 abbrev image₃ : List ℕ
 image₃ = copyInImage image₂ page₂ image₁ 0 9
 
-abbrev page₃ : ThinPage
+abbrev page₃ : Page
 page₃ = copyIn image₂ page₂ image₁ 0 9 .page
 
 -- the items put: a single entry, data, the single entry once more

@@ -9,8 +9,7 @@ use Prim.Native.Nat.{ℕ}
 use lib.Dec.{eqb}
 use lib.ListN.{length, take, getD, replicate, set}
 use Rattle.flash.specs.Flash.{every, program}
-use Rattle.page.specs.declared.ThinPage.{ThinPage}
-use Rattle.page.specs.Record.{uninitialized}
+use Rattle.page.specs.Record.{Page, uninitialized}
 use Rattle.sector.specs.declared.EntryMapState.{EntryMapState}
 use Rattle.sector.specs.declared.EntryMapState.the-variants.{Empty, Written, Erased}
 use Rattle.sector.specs.declared.PageState.the-variants.{Active, Full}
@@ -33,14 +32,14 @@ use Rattle.opening.specs.Opening.{keptItems, openingImage}
 -- ---- pages and requests
 
 -- a page just initialised: its record, its image
-abbrev pub freshPage : ThinPage
+abbrev pub freshPage : Page
 freshPage = initialised uninitialized 0
 
 abbrev pub freshImage : List ℕ
 freshImage = initialiseImage (replicate sectorSize 0xFF) uninitialized 0 8
 
 -- an Active page whose first entries are in one state, so many used, so many erased
-abbrev pub pageWith : EntryMapState → ℕ → ℕ → ℕ → ThinPage
+abbrev pub pageWith : EntryMapState → ℕ → ℕ → ℕ → Page
 pageWith state n used erased =
     record {
       state = Active;

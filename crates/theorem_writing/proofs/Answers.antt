@@ -13,8 +13,7 @@ use lib.Seq.{take-length}
 use borrow.Author.Tests.{ltb-false, le-ltb, eqb-false, not-false}
 use Rattle.flash.specs.Flash.{Unit4, every}
 use Rattle.flash.proofs.Laws.{neither}
-use Rattle.page.specs.declared.ThinPage.{ThinPage}
-use Rattle.page.specs.Record.{nextFree, fitToUse}
+use Rattle.page.specs.Record.{Page, nextFree, fitToUse}
 use Rattle.page.specs.Writing.{badImage, badRecord, notActive, overFree, outcome, imageAfter, stops}
 use Rattle.page.proofs.Checks.{Usable, accepted-room, accepted-usable}
 use Rattle.sector.specs.declared.Answer.the-variants.{Done, BadImage, KeyNotFound, CorruptedData, ValueTooLong, Stopped}
@@ -41,7 +40,7 @@ refused [] e f = absurd (false≢true (sym f))
 refused ((true, answer) ∷ checks) e f = and-eq-true-iff (isRefusal answer) (every answersRefusal checks) .0 e .0
 refused ((false, answer) ∷ checks) e f = refused checks (and-eq-true-iff (isRefusal answer) (every answersRefusal checks) .0 e .1) f
 
-pub checks-refuse : (call : Call) (image : List ℕ) (page : ThinPage) → every answersRefusal (checksOf call image page) ≡ true
+pub checks-refuse : (call : Call) (image : List ℕ) (page : Page) → every answersRefusal (checksOf call image page) ≡ true
 checks-refuse (initialising sequence) image page = refl
 checks-refuse markingFull image page = refl
 checks-refuse (putting (single item)) image page = refl
@@ -54,7 +53,7 @@ pub accepted-both : (xs ys : List Check) → accepted (xs ++ ys) ≡ true → (a
 accepted-both xs ys h = and-eq-true-iff (accepted xs) (accepted ys) .0 (sym (accepted-append xs ys) ∙ h)
 
 -- a copy that is accepted so far: its span is at least 1, and leaves neither page
-pub copied-span : (source : List ℕ) (i : ℕ) (image : List ℕ) (page : ThinPage) → accepted (earlierChecks (copied source i) image page) ≡ true
+pub copied-span : (source : List ℕ) (i : ℕ) (image : List ℕ) (page : Page) → accepted (earlierChecks (copied source i) image page) ≡ true
     → (1 ≤ spanOfNew (copied source i)) × (i + spanOfNew (copied source i) ≤ 126)
 copied-span source i image page h =
     let span = spanOf (entryAt source i) in
@@ -69,18 +68,18 @@ copied-span source i image page h =
     positive (suc span) h = omega arith
 
 -- what the accepted checks of a call that puts an item tell
-pub record Accepts (new : PutRequest) (page : ThinPage) : Type 0 where
+pub record Accepts (new : PutRequest) (page : Page) : Type 0 where
   pub fit : fitToUse page ≡ true
   pub active : isActive (page .state) ≡ true
   pub one : 1 ≤ spanOfNew new
   pub room : nextFree page + spanOfNew new ≤ 126
 
-accepts-of : {image : List ℕ} {checks : List Check} (new : PutRequest) (page : ThinPage) → Usable image page (not (isActive (page .state))) checks
+accepts-of : {image : List ℕ} {checks : List Check} (new : PutRequest) (page : Page) → Usable image page (not (isActive (page .state))) checks
     → 1 ≤ spanOfNew new → accepted (overFree page (spanOfNew new) ∷ []) ≡ true → Accepts new page
 accepts-of new page u one room =
     record { fit = u .fit; active = not-false (isActive (page .state)) (u .state); one = one; room = accepted-room page (spanOfNew new) one room }
 
-pub accepts : (new : PutRequest) (image : List ℕ) (page : ThinPage) → accepted (checksOf (putting new) image page) ≡ true → Accepts new page
+pub accepts : (new : PutRequest) (image : List ℕ) (page : Page) → accepted (checksOf (putting new) image page) ≡ true → Accepts new page
 accepts (single item) image page h =
     accepts-of (single item) page (accepted-usable image page (not (isActive (page .state))) (drop 3 (singleChecks image page item)) h)
     (omega arith) (accepted-both (earlierChecks (single item) image page) (overFree page 1 ∷ []) h .1)
@@ -98,7 +97,7 @@ accepts (copied source i) image page h =
 
 -- ---- what an answer tells
 
-module _ (checks : List Check) (refuse : every answersRefusal checks ≡ true) (stopped : Bool) (page new : ThinPage) where
+module _ (checks : List Check) (refuse : every answersRefusal checks ≡ true) (stopped : Bool) (page new : Page) where
   -- 11 is answered where no check refuses and n is below the total
   pub stopped-only : outcome checks stopped page new .answer ≡ Stopped
       → (accepted checks ≡ true) × (stopped ≡ true) × (outcome checks stopped page new .page ≡ page)
@@ -126,7 +125,7 @@ module _ (checks : List Check) (refuse : every answersRefusal checks ≡ true) (
           absurd (false≢true (sym (ap isRefusal wrong) ∙ refused checks refuse a))
 
 -- 1 to 10 are answered where a check refuses
-pub refusal-only : (checks : List Check) (stopped : Bool) (page new : ThinPage) → isRefusal (outcome checks stopped page new .answer) ≡ true
+pub refusal-only : (checks : List Check) (stopped : Bool) (page new : Page) → isRefusal (outcome checks stopped page new .answer) ≡ true
     → (accepted checks ≡ false) × (outcome checks stopped page new .page ≡ page)
 refusal-only checks stopped page new h = by-tests (accepted checks) stopped refl refl h
   where
@@ -138,14 +137,14 @@ refusal-only checks stopped page new h = by-tests (accepted checks) stopped refl
 
 -- ---- a call does the first m of its units: n of them, or all where it takes no n
 
-pub record Told (call : Call) (image : List ℕ) (page : ThinPage) (n : ℕ) : Type 0 where
+pub record Told (call : Call) (image : List ℕ) (page : Page) (n : ℕ) : Type 0 where
   pub count : ℕ
   pub count-is : (count ≡ n) ⊎ (count ≡ length (planOf call image page))
   pub outcome-is : outcomeOf call image page n ≡ outcome (checksOf call image page) (stops count (planOf call image page)) page (newOf call page)
   pub image-is : imageOf call image page n ≡ imageAfter (checksOf call image page) (take count (planOf call image page)) image
 
 -- a call that puts an item does n
-pub told-put : (new : PutRequest) (image : List ℕ) (page : ThinPage) (n : ℕ)
+pub told-put : (new : PutRequest) (image : List ℕ) (page : Page) (n : ℕ)
     → (outcomeOf (putting new) image page n ≡ outcome (checksOf (putting new) image page) (stops n (planOf (putting new) image page)) page (newOf (putting new) page))
     × (imageOf (putting new) image page n ≡ imageAfter (checksOf (putting new) image page) (take n (planOf (putting new) image page)) image)
 unfolding appendSingle appendSingleImage appendVariable appendVariableImage copyIn copyInImage
@@ -154,7 +153,7 @@ told-put (variable item payload) image page n = (refl, refl)
 told-put (copied source i) image page n = (refl, refl)
 
 -- one that takes no n does all
-told-all : (call : Call) (image : List ℕ) (page : ThinPage) (n : ℕ)
+told-all : (call : Call) (image : List ℕ) (page : Page) (n : ℕ)
     → outcomeOf call image page n ≡ outcome (checksOf call image page) false page (newOf call page)
     → imageOf call image page n ≡ imageAfter (checksOf call image page) (planOf call image page) image → Told call image page n
 told-all call image page n outcome-is image-is =
@@ -167,7 +166,7 @@ told-all call image page n outcome-is image-is =
       image-is = image-is ∙ ap (λ (us : List Unit4). imageAfter checks us image) (sym (take-length plan));
     }
 
-pub told : (call : Call) (image : List ℕ) (page : ThinPage) (n : ℕ) → Told call image page n
+pub told : (call : Call) (image : List ℕ) (page : Page) (n : ℕ) → Told call image page n
 unfolding initialise initialiseImage markFull markFullImage erase eraseImage purgeNamespace purgeNamespaceImage
 told (initialising sequence) image page n = record { count = n; count-is = inl refl; outcome-is = refl; image-is = refl }
 told markingFull image page n = told-all markingFull image page n refl refl

@@ -15,9 +15,8 @@ use Rattle.flash.specs.Flash.{every}
 use Rattle.flash.proofs.Laws.{Bytes, bytes-nil, bytes-cons, every-append, every-drop, neither}
 use Rattle.page.specs.declared.Listed.{Listed}
 use Rattle.page.specs.declared.Outcome.{Outcome}
-use Rattle.page.specs.declared.ThinPage.{ThinPage}
 use Rattle.sector.specs.Header.{isUninitialized, isActive, isInUse}
-use Rattle.page.specs.Record.{nextFree, noItem, placeFits, placeZero, without, inUse, blankFits, fitToUse, withItem, withErased}
+use Rattle.page.specs.Record.{Page, nextFree, noItem, placeFits, placeZero, without, inUse, blankFits, fitToUse, withItem, withErased}
 use Rattle.page.specs.Writing.{badImage, badRecord, stops}
 use Rattle.page.proofs.Checks.{accepted-usable}
 use Rattle.page.proofs.Laws.{Fit, fit-clauses, fit-of}
@@ -48,12 +47,12 @@ known-state test none Corrupt h = refl
 known-state test none Invalid h = refl
 
 -- a page that is not Uninitialized owes no blank record
-pub known-fits : (page : ThinPage) → isUninitialized (page .state) ≡ false → blankFits page ≡ true
+pub known-fits : (page : Page) → isUninitialized (page .state) ≡ false → blankFits page ≡ true
 known-fits page h = rw h
 
 -- ---- another state
 
-initialised-fit : (page : ThinPage) (sequence : ℕ) → fitToUse page ≡ true → fitToUse (initialised page sequence) ≡ true
+initialised-fit : (page : Page) (sequence : ℕ) → fitToUse page ≡ true → fitToUse (initialised page sequence) ≡ true
 unfolding initialised
 initialised-fit page sequence h =
     let f = fit-clauses page h in
@@ -67,7 +66,7 @@ initialised-fit page sequence h =
       blank-fits = refl;
     })
 
-marked-full-fit : (page : ThinPage) → fitToUse page ≡ true → fitToUse (markedFull page) ≡ true
+marked-full-fit : (page : Page) → fitToUse page ≡ true → fitToUse (markedFull page) ≡ true
 unfolding markedFull
 marked-full-fit page h =
     let f = fit-clauses page h in
@@ -103,7 +102,7 @@ zero-behind list len place h e =
     rw (add-one len, drop-set-lt (suc len) list len place (omega arith))
     (and-eq-true-iff (placeZero (getD list len noItem)) (every placeZero (drop (suc len) list)) .0 (sym (every-drop placeZero list len noItem h) ∙ e) .1)
 
-module _ (page : ThinPage) (span namespace hash : ℕ) (code : AsInCode page) (f : Fit page) (active : isActive (page .state) ≡ true)
+module _ (page : Page) (span namespace hash : ℕ) (code : AsInCode page) (f : Fit page) (active : isActive (page .state) ≡ true)
     (one : 1 ≤ span) (room : nextFree page + span ≤ 126) (short : hash < 2 ^ 24) where
   abbrev place : Listed
   place = record { hash = hash; index = nextFree page }
@@ -176,7 +175,7 @@ pub every-replicate : {A : Type 0} (test : A → Bool) (n : ℕ) (x : A) → tes
 every-replicate test zero x h = refl
 every-replicate test (suc n) x h = rw h (every-replicate test n x h)
 
-module _ (page : ThinPage) (index span : ℕ) (code : AsInCode page) (f : Fit page) (known : isUninitialized (page .state) ≡ false)
+module _ (page : Page) (index span : ℕ) (code : AsInCode page) (f : Fit page) (known : isUninitialized (page .state) ≡ false)
     (room : index + span ≤ 126) (all : allWritten (page .map) index span ≡ true) where
   abbrev kept : List Listed
   kept = without index (inUse page)
@@ -209,13 +208,13 @@ pub hash-short : (namespace : ℕ) (key : List ℕ) (chunk : ℕ) → hashOf nam
 unfolding hashOf
 hash-short namespace key chunk = omega arith
 
-put-fit : (new : PutRequest) (image : List ℕ) (page : ThinPage) → AsInCode page → accepted (checksOf (putting new) image page) ≡ true
+put-fit : (new : PutRequest) (image : List ℕ) (page : Page) → AsInCode page → accepted (checksOf (putting new) image page) ≡ true
     → (namespace : ℕ) (key : List ℕ) (chunk : ℕ) → fitToUse (withItem page (spanOfNew new) namespace (hashOf namespace key chunk)) ≡ true
 put-fit new image page code h namespace key chunk =
     let a = accepts new image page h in
     item-fit page (spanOfNew new) namespace (hashOf namespace key chunk) code (fit-clauses page (a .fit)) (a .active) (a .one) (a .room) (hash-short namespace key chunk)
 
-new-fit : (call : Call) (image : List ℕ) (page : ThinPage) → AsInCode page → accepted (checksOf call image page) ≡ true → fitToUse (newOf call page) ≡ true
+new-fit : (call : Call) (image : List ℕ) (page : Page) → AsInCode page → accepted (checksOf call image page) ≡ true → fitToUse (newOf call page) ≡ true
 new-fit (initialising sequence) image page code h =
     initialised-fit page sequence (accepted-usable image page (not (isUninitialized (page .state))) (drop 3 (initialiseChecks image page)) h .fit)
 new-fit markingFull image page code h = marked-full-fit page (accepted-usable image page (not (isActive (page .state))) [] h .fit)

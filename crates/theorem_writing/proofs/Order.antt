@@ -14,8 +14,7 @@ use lib.Seq.{getD-take, getD-drop}
 use borrow.Author.Tests.{ltb-true, leb-true, le-leb, le-ltb, eqb-true}
 use Rattle.flash.specs.Flash.{Unit4, unit, units, run, every}
 use Rattle.flash.proofs.Laws.{Rising, rising-nil, rising-cons, rising-units, length-units-le, Outside, outside-nil, outside-cons, outside-append, take-drop-run}
-use Rattle.page.specs.declared.ThinPage.{ThinPage}
-use Rattle.page.specs.Record.{nextFree}
+use Rattle.page.specs.Record.{Page, nextFree}
 use Rattle.page.specs.Writing.{badImage, fullUnits, itemPlan}
 use Rattle.sector.specs.declared.EntryMapState.the-variants.{Written, Erased}
 use Rattle.sector.specs.declared.PageState.the-variants.{Full}
@@ -114,7 +113,7 @@ rises-marks i n map =
     let long : length part ≤ 4 * count = rw length-take (omega arith) in
     rises-units (mapOffset + 4 * first) part (marking i n [] .to) (omega arith)
 
-rises-entries : (new : PutRequest) (page : ThinPage) → formed (putting new) ≡ true
+rises-entries : (new : PutRequest) (page : Page) → formed (putting new) ≡ true
     → rises (entryAddress (nextFree page)) (entryAddress (nextFree page + spanOfNew new)) (entryUnits new page) ≡ true
 rises-entries (single item) page h =
     let both = and-eq-true-iff (eqb (length (item .key)) 16) (eqb (length (item .bytes)) 8) .0 h in
@@ -140,21 +139,21 @@ rises-entries (copied source i) page h =
     rises-units (entryAddress start) (copiedBytes source i) (entryAddress (start + span)) (omega arith)
 
 -- the plan of a call that puts an item
-pub plan-put : (new : PutRequest) (image : List ℕ) (page : ThinPage)
+pub plan-put : (new : PutRequest) (image : List ℕ) (page : Page)
     → planOf (putting new) image page ≡ itemPlan (entryUnits new page) (nextFree page) (spanOfNew new) (page .map)
 unfolding singlePlan variablePlan copyPlan
 plan-put (single item) image page = refl
 plan-put (variable item payload) image page = refl
 plan-put (copied source i) image page = refl
 
-units-of-item : (new : PutRequest) (page : ThinPage) → unitsOf (itemWrites new page) ≡ itemPlan (entryUnits new page) (nextFree page) (spanOfNew new) (page .map)
+units-of-item : (new : PutRequest) (page : Page) → unitsOf (itemWrites new page) ≡ itemPlan (entryUnits new page) (nextFree page) (spanOfNew new) (page .map)
 unfolding itemPlan
 units-of-item new page =
     let start = nextFree page in
     let span = spanOfNew new in
     ap (λ (full : List Unit4). entryUnits new page ++ (mapUnits start span (markRange Written start span (page .map)) ++ full)) (append-nil (fullUnits (start + span)))
 
-item-in-order : (new : PutRequest) (page : ThinPage) → formed (putting new) ≡ true → every inOrder (itemWrites new page) ≡ true
+item-in-order : (new : PutRequest) (page : Page) → formed (putting new) ≡ true → every inOrder (itemWrites new page) ≡ true
 item-in-order new page h =
     let start = nextFree page in
     let span = spanOfNew new in

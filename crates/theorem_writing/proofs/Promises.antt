@@ -15,8 +15,7 @@ use borrow.Author.Tests.{ltb-true, ltb-false, lt-ltb, le-ltb, not-true}
 use Rattle.flash.specs.Flash.{Unit4, run, every}
 use Rattle.flash.proofs.Laws.{OnlyClears, clears-nil, clears-cons, clears-refl, clears-run, length-run, Outside, outside-take}
 use Rattle.page.specs.declared.Outcome.{Outcome}
-use Rattle.page.specs.declared.ThinPage.{ThinPage}
-use Rattle.page.specs.Record.{free}
+use Rattle.page.specs.Record.{Page, free}
 use Rattle.page.specs.Writing.{badImage, overFree, answered, outcome, imageAfter, stops}
 use Rattle.sector.specs.declared.Answer.{Answer}
 use Rattle.sector.specs.declared.Answer.the-variants.{BadImage, ValueTooLong, PageFull, Stopped}
@@ -67,7 +66,7 @@ stopped-leaves-first call image page n h =
     by-count count total (inl e) b = e
     by-count count total (inr e) b = absurd (omega arith)
 
-below-total : (checks : List Check) (plan : List Unit4) (page new : ThinPage) (n : ℕ) → accepted checks ≡ true → n < length plan
+below-total : (checks : List Check) (plan : List Unit4) (page new : Page) (n : ℕ) → accepted checks ≡ true → n < length plan
     → outcome checks (stops n plan) page new ≡ answered Stopped page
 below-total checks plan page new n a h = rw (a, lt-ltb n (length plan) h)
 
@@ -115,7 +114,7 @@ refusal-other ((true, answer) ∷ checks) h =
     not-true (isPageFull answer) (and-eq-true-iff (not (isPageFull answer)) (every answersOther checks) .0 h .0)
 refusal-other ((false, answer) ∷ checks) h = refusal-other checks (and-eq-true-iff (not (isPageFull answer)) (every answersOther checks) .0 h .1)
 
-module _ (earlier behind : List Check) (others : every answersOther earlier ≡ true) (stopped : Bool) (page new : ThinPage) where
+module _ (earlier behind : List Check) (others : every answersOther earlier ≡ true) (stopped : Bool) (page new : Page) where
   -- PageFull comes of the later checks
   full-of-behind : outcome (earlier ++ behind) stopped page new .answer ≡ PageFull → (accepted earlier ≡ true) × (refusal behind ≡ PageFull)
   full-of-behind h = by-tests (accepted (earlier ++ behind)) stopped (accepted earlier) refl refl refl h
@@ -142,7 +141,7 @@ length-full true over h = absurd (false≢true (ap isPageFull h))
 length-full false over h = (refl, room-full over h)
 
 -- of a call whose span is on the page where its earlier checks accept
-room-exactly : (earlier : List Check) → every answersOther earlier ≡ true → (stopped : Bool) (page new : ThinPage) (span : ℕ) → (accepted earlier ≡ true → span ≤ 126)
+room-exactly : (earlier : List Check) → every answersOther earlier ≡ true → (stopped : Bool) (page new : Page) (span : ℕ) → (accepted earlier ≡ true → span ≤ 126)
     → let answer = outcome (earlier ++ (overFree page span ∷ [])) stopped page new .answer in
     (answer ≡ PageFull → (accepted earlier ≡ true) × (span ≤ 126) × (free page < span))
     × (accepted earlier ≡ true → span ≤ 126 → free page < span → answer ≡ PageFull)

@@ -13,8 +13,7 @@ use lib.Dec.{eqb, leb, ltb}
 use lib.ListN.{length, take, getD, replicate}
 use Rattle.flash.specs.Flash.{Unit4, unit, units, run, every}
 use Rattle.page.specs.declared.Outcome.{Outcome}
-use Rattle.page.specs.declared.ThinPage.{ThinPage}
-use Rattle.page.specs.Record.{nextFree, free, fitToUse, withErased}
+use Rattle.page.specs.Record.{Page, nextFree, free, fitToUse, withErased}
 use Rattle.page.specs.Writing.{badImage, badRecord, notActive, answered, outcome, imageAfter, fullUnits}
 use Rattle.sector.specs.declared.Answer.{Answer}
 use Rattle.sector.specs.declared.Answer.the-variants.{Done, CorruptedData, KeyNotFound, PageFull, Stopped}
@@ -48,7 +47,7 @@ pub data Call : Type 0 where
   erasing : ℕ → ℕ → Call
   purging : ℕ → Call
 
-abbrev pub checksOf : Call → List ℕ → ThinPage → List Check
+abbrev pub checksOf : Call → List ℕ → Page → List Check
 checksOf (initialising sequence) image page = initialiseChecks image page
 checksOf markingFull image page = markFullChecks image page
 checksOf (putting (single item)) image page = singleChecks image page item
@@ -58,7 +57,7 @@ checksOf (erasing index span) image page = eraseChecks image page index span
 checksOf (purging namespace) image page = purgeNamespaceChecks image page
 
 -- the units of a call, in order
-abbrev pub planOf : Call → List ℕ → ThinPage → List Unit4
+abbrev pub planOf : Call → List ℕ → Page → List Unit4
 planOf (initialising sequence) image page = initialisePlan sequence
 planOf markingFull image page = markFullPlan
 planOf (putting (single item)) image page = singlePlan page item
@@ -67,7 +66,7 @@ planOf (putting (copied source i)) image page = copyPlan page source i
 planOf (erasing index span) image page = erasePlan page index span
 planOf (purging namespace) image page = purgeNamespacePlan image page namespace
 
-abbrev pub newOf : Call → ThinPage → ThinPage
+abbrev pub newOf : Call → Page → Page
 newOf (initialising sequence) page = initialised page sequence
 newOf markingFull page = markedFull page
 newOf (putting (single item)) page = withSingle page item
@@ -77,7 +76,7 @@ newOf (erasing index span) page = withErased page index span
 newOf (purging namespace) page = page
 
 -- what the call hands back, told to stop after n units
-abbrev pub outcomeOf : Call → List ℕ → ThinPage → ℕ → Outcome
+abbrev pub outcomeOf : Call → List ℕ → Page → ℕ → Outcome
 outcomeOf (initialising sequence) image page n = initialise image page sequence n
 outcomeOf markingFull image page n = markFull image page
 outcomeOf (putting (single item)) image page n = appendSingle image page item n
@@ -87,7 +86,7 @@ outcomeOf (erasing index span) image page n = erase image page index span
 outcomeOf (purging namespace) image page n = purgeNamespace image page namespace
 
 -- what it leaves in the image
-abbrev pub imageOf : Call → List ℕ → ThinPage → ℕ → List ℕ
+abbrev pub imageOf : Call → List ℕ → Page → ℕ → List ℕ
 imageOf (initialising sequence) image page n = initialiseImage image page sequence n
 imageOf markingFull image page n = markFullImage image page
 imageOf (putting (single item)) image page n = appendSingleImage image page item n
@@ -111,7 +110,7 @@ formed (purging namespace) = true
 -- n at or above the total is the plain call
 abbrev pub PlainFromTotal : Type 0
 PlainFromTotal =
-    (call : Call) (image : List ℕ) (page : ThinPage) (n : ℕ) → length (planOf call image page) ≤ n
+    (call : Call) (image : List ℕ) (page : Page) (n : ℕ) → length (planOf call image page) ≤ n
     → (outcomeOf call image page n ≡ outcome (checksOf call image page) false page (newOf call page))
     × (imageOf call image page n ≡ imageAfter (checksOf call image page) (planOf call image page) image)
 
@@ -120,7 +119,7 @@ PlainFromTotal =
 -- 11: n was below the total; it leaves the first n units programmed and hands back the incoming record
 abbrev pub StoppedLeavesFirst : Type 0
 StoppedLeavesFirst =
-    (call : Call) (image : List ℕ) (page : ThinPage) (n : ℕ) → outcomeOf call image page n .answer ≡ Stopped
+    (call : Call) (image : List ℕ) (page : Page) (n : ℕ) → outcomeOf call image page n .answer ≡ Stopped
     → (n < length (planOf call image page))
     × (imageOf call image page n ≡ run (take n (planOf call image page)) image)
     × (outcomeOf call image page n .page ≡ page)
@@ -136,7 +135,7 @@ takesN (purging namespace) = false
 -- and 11 is what they then answer, where n is below the total and no check refuses
 abbrev pub StopsBelowTotal : Type 0
 StopsBelowTotal =
-    (call : Call) (image : List ℕ) (page : ThinPage) (n : ℕ) → takesN call ≡ true
+    (call : Call) (image : List ℕ) (page : Page) (n : ℕ) → takesN call ≡ true
     → accepted (checksOf call image page) ≡ true → n < length (planOf call image page) → outcomeOf call image page n ≡ answered Stopped page
 
 -- 1 to 10
@@ -146,7 +145,7 @@ isRefusal answer = ltb 0 (numberOf answer) && ltb (numberOf answer) 11
 -- 1 to 10 change nothing; the record handed back is the incoming one
 abbrev pub RefusedChangesNothing : Type 0
 RefusedChangesNothing =
-    (call : Call) (image : List ℕ) (page : ThinPage) (n : ℕ) → isRefusal (outcomeOf call image page n .answer) ≡ true
+    (call : Call) (image : List ℕ) (page : Page) (n : ℕ) → isRefusal (outcomeOf call image page n .answer) ≡ true
     → (imageOf call image page n ≡ image) × (outcomeOf call image page n .page ≡ page)
 
 -- nor does a refused purge
@@ -162,7 +161,7 @@ spanOfNew (variable item payload) = spanFor (length payload)
 spanOfNew (copied source i) = spanOf (entryAt source i)
 
 -- the checks before those of its span
-abbrev pub earlierChecks : PutRequest → List ℕ → ThinPage → List Check
+abbrev pub earlierChecks : PutRequest → List ℕ → Page → List Check
 earlierChecks (single item) image page = badImage image ∷ badRecord page ∷ notActive page ∷ singleRequest item ∷ []
 earlierChecks (variable item payload) image page = badImage image ∷ badRecord page ∷ notActive page ∷ variableRequest item ∷ []
 earlierChecks (copied source i) image page =
@@ -178,7 +177,7 @@ earlierChecks (copied source i) image page =
 -- PageFull exactly where no earlier check refuses, the span is at most 126, and it is over the free entries
 abbrev pub PageFullExactly : Type 0
 PageFullExactly =
-    (new : PutRequest) (image : List ℕ) (page : ThinPage) (n : ℕ)
+    (new : PutRequest) (image : List ℕ) (page : Page) (n : ℕ)
     → ((outcomeOf (putting new) image page n .answer ≡ PageFull)
     → (accepted (earlierChecks new image page) ≡ true) × (spanOfNew new ≤ entriesPerPage) × (free page < spanOfNew new))
     × (accepted (earlierChecks new image page) ≡ true → spanOfNew new ≤ entriesPerPage → free page < spanOfNew new
@@ -193,7 +192,7 @@ SetsNoBit before after =
 
 -- no call sets a cleared bit, at any n
 abbrev pub OnlyClearsBits : Type 0
-OnlyClearsBits = (call : Call) (image : List ℕ) (page : ThinPage) (n : ℕ) → SetsNoBit image (imageOf call image page n)
+OnlyClearsBits = (call : Call) (image : List ℕ) (page : Page) (n : ℕ) → SetsNoBit image (imageOf call image page n)
 
 abbrev pub PurgeOnlyClearsBits : Type 0
 PurgeOnlyClearsBits = (image : List ℕ) (index span : ℕ) → SetsNoBit image (purgeImage image index span)
@@ -221,14 +220,14 @@ marking start span marks =
     record { from = mapOffset + 4 * (start / 16); to = mapOffset + 4 * ((start + span - 1) / 16 + 1); plan = marks }
 
 -- the units of an item's bytes
-abbrev pub entryUnits : PutRequest → ThinPage → List Unit4
+abbrev pub entryUnits : PutRequest → Page → List Unit4
 entryUnits (single item) page = units (entryAddress (nextFree page)) (singleBytes item)
 entryUnits (variable item payload) page =
     units (entryAddress (nextFree page)) (variableHeader item payload) ++ units (entryAddress (nextFree page + 1)) payload
 entryUnits (copied source i) page = units (entryAddress (nextFree page)) (copiedBytes source i)
 
 -- its own entries, then the marks of its range, then the state word
-abbrev pub itemWrites : PutRequest → ThinPage → List Write
+abbrev pub itemWrites : PutRequest → Page → List Write
 itemWrites new page =
     record { from = entryAddress (nextFree page); to = entryAddress (nextFree page + spanOfNew new); plan = entryUnits new page }
     ∷ marking (nextFree page) (spanOfNew new)
@@ -243,7 +242,7 @@ zeroWrites i (z ∷ zs) =
     record { from = entryAddress i; to = entryAddress (suc i); plan = cond z (units (entryAddress i) (replicate entrySize 0)) [] } ∷ zeroWrites (suc i) zs
 
 -- the writes of a call: initialise and mark full the header alone, erase the marks of its range alone, purge by namespace the entries that it zeroes alone
-abbrev pub writesOf : Call → List ℕ → ThinPage → List Write
+abbrev pub writesOf : Call → List ℕ → Page → List Write
 writesOf (initialising sequence) image page = record { from = 0; to = 32; plan = initialisePlan sequence } ∷ []
 writesOf markingFull image page = record { from = 0; to = 4; plan = markFullPlan } ∷ []
 writesOf (putting new) image page = itemWrites new page
@@ -258,7 +257,7 @@ unitsOf (write ∷ writes) = write .plan ++ unitsOf writes
 -- the plan is those writes in that order, and units rise within each: so bytes come before marks, and marks before the state word
 abbrev pub WritesInOrder : Type 0
 WritesInOrder =
-    (call : Call) (image : List ℕ) (page : ThinPage) → formed call ≡ true
+    (call : Call) (image : List ℕ) (page : Page) → formed call ≡ true
     → (unitsOf (writesOf call image page) ≡ planOf call image page) × (every inOrder (writesOf call image page) ≡ true)
 
 -- purge programs its own entries, in rising address
@@ -274,7 +273,7 @@ outside i write = ltb i (write .from) || (leb (write .to) i || eqb (length (writ
 -- no byte outside its writes is altered, at any n
 abbrev pub AltersNothingElse : Type 0
 AltersNothingElse =
-    (call : Call) (image : List ℕ) (page : ThinPage) (n : ℕ) → formed call ≡ true
+    (call : Call) (image : List ℕ) (page : Page) (n : ℕ) → formed call ≡ true
     → (i : ℕ) → every (outside i) (writesOf call image page) ≡ true → getD (imageOf call image page n) i 0 ≡ getD image i 0
 
 -- purge alters its own entries alone
@@ -290,12 +289,12 @@ PurgesNothingPast = (image : List ℕ) (index span : ℕ) → entriesPerPage ≤
 -- ---- fit records
 
 -- a record as code holds it: a map of 32 bytes, a list of 126 places
-abbrev pub AsInCode : ThinPage → Type 0
+abbrev pub AsInCode : Page → Type 0
 AsInCode page =
     (length (page .map) ≡ 32) × (every (λ (byte : ℕ). ltb byte 256) (page .map) ≡ true) × (length (page .list) ≡ entriesPerPage)
 
 -- done calls hand back fit records
 abbrev pub DoneHandsBackFit : Type 0
 DoneHandsBackFit =
-    (call : Call) (image : List ℕ) (page : ThinPage) (n : ℕ) → AsInCode page
+    (call : Call) (image : List ℕ) (page : Page) (n : ℕ) → AsInCode page
     → outcomeOf call image page n .answer ≡ Done → fitToUse (outcomeOf call image page n .page) ≡ true

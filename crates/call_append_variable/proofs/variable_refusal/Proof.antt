@@ -7,7 +7,7 @@ use lib.Dec.{ltb}
 use lib.ListN.{length}
 use borrow.Author.Needs.{needs}
 use borrow.Author.Tests.{lt-ltb, le-ltb, not-true, not-false}
-use Rattle.page.specs.declared.ThinPage.{ThinPage}
+use Rattle.page.specs.Record.{Page}
 use Rattle.page.specs.Writing.{overFree}
 use Rattle.sector.proofs.Laws.{accepted-done, refusal-refused, refusal-passed}
 use Rattle.sector.specs.declared.Answer.the-variants.{ValueTooLong}
@@ -20,7 +20,7 @@ use Rattle.call_append_variable.proofs.variable_refusal.Statement.{stat
 use Rattle.call_append_variable.proofs.variable_refusal.Tie as tie
 
 -- those after the shared ones
-abbrev dataChecks : ThinPage → Variable → ℕ → List Check
+abbrev dataChecks : Page → Variable → ℕ → List Check
 dataChecks page item span = variableRequest item ∷ (ltb entriesPerPage span, ValueTooLong) ∷ overFree page span ∷ []
 
 -- the test says whether the checks in front accept

@@ -10,8 +10,7 @@ use lib.ListN.{length, take, drop, length-take}
 use Rattle.flash.specs.Flash.{Unit4, units, run}
 use Rattle.sector.proofs.Laws.{accepted-done}
 use Rattle.page.proofs.Checks.{call-ended}
-use Rattle.page.specs.declared.ThinPage.{ThinPage}
-use Rattle.page.specs.Record.{nextFree}
+use Rattle.page.specs.Record.{Page, nextFree}
 use Rattle.page.specs.Writing.{fullUnits}
 use Rattle.sector.specs.Answers.{accepted}
 use Rattle.sector.specs.Layout.{entriesPerPage, entryAddress, spanOf}
@@ -28,7 +27,7 @@ module _ (c : tie.After-is-done) where
   abbrev image : List ℕ
   image = start .args .image .now
 
-  abbrev page : ThinPage
+  abbrev page : Page
   page = start .args .page
 
   abbrev source : List ℕ

@@ -8,7 +8,7 @@ use borrow.Author.Tests.{not-true, not-false}
 use Rattle.flash.specs.Flash.{Unit4, run}
 use Rattle.sector.proofs.Laws.{accepted-done}
 use Rattle.page.proofs.Checks.{call-whole}
-use Rattle.page.specs.declared.ThinPage.{ThinPage}
+use Rattle.page.specs.Record.{Page}
 use Rattle.sector.specs.Answers.{Check, accepted}
 use Rattle.call_erase.specs.Erase.{eraseChecks, erasePlan, erase, eraseImage}
 use Rattle.call_erase.proofs.Laws.{EraseFits, erase-fits, plan-erased}
@@ -22,7 +22,7 @@ module _ (c : tie.After-is-done) where
   abbrev image : List ℕ
   image = start .args .image .now
 
-  abbrev page : ThinPage
+  abbrev page : Page
   page = start .args .page
 
   abbrev checks : List Check

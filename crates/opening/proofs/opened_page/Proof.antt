@@ -7,7 +7,7 @@ use borrow.Author.Needs.{needs}
 use lib.ListN.{length, take}
 use Rattle.flash.specs.Flash.{Unit4, run}
 use Rattle.flash.proofs.Laws.{run-both}
-use Rattle.page.specs.declared.ThinPage.{ThinPage}
+use Rattle.page.specs.Record.{Page}
 use Rattle.sector.specs.Layout.{mapOf}
 use Rattle.opening_marks.specs.Marks.{changedUnits}
 use Rattle.opening.specs.Opening.{openedMap, firstMap, openingPlan, openedPage}
@@ -18,7 +18,7 @@ use Rattle.opening.proofs.opened_page.Tie as tie
 -- the map that the record has is the one that opening leaves
 opened : (c : tie.After-changes) → c .changes .result .page .map ≡ openedMap (c .before .before .before .args .image .now)
 unfolding openedPage
-opened c = ap (λ (page : ThinPage). page .map) (c .changes .ensures .page)
+opened c = ap (λ (page : Page). page .map) (c .changes .ensures .page)
 
 -- both passes under one budget
 both : (c : tie.After-program-changes2)
