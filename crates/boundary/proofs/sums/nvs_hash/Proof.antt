@@ -3,10 +3,11 @@ use mathlib.Core.Path.{refl, ap, _∙_}
 use Prim.Native.Nat.{ℕ}
 use borrow.Author.Needs.{needs}
 use mathlib.Core.List.{List}
+use Rattle.sector.specs.declared.Answer.the-variants.{Done}
 use Rattle.sector.specs.Item.{hashOf}
-use Rattle.boundary_encoding.specs.Encoding.{answerBytes, zeroItem, noCounts}
+use Rattle.boundary_encoding.specs.Encoding.{zeroItem}
 use Rattle.boundary.specs.Boundary.{hashGiven}
-use Rattle.boundary.proofs.Laws.{wrong-size, right-size}
+use Rattle.boundary.proofs.Laws.{wrong-size, right-size, given-of}
 use Rattle.boundary.proofs.sums.nvs_hash.Statement.{statement}
 use Rattle.boundary.proofs.sums.nvs_hash.Tie as tie
 
@@ -24,8 +25,5 @@ nvs-hash-spec =
     let array = summed .before in
     let past = array .before in
     let z = past .before .before .before .before .args in
-    rw (right-size 57 _ (past .before .if1 .left), right-size 16 _ (past .if2 .left)) (
-      gave .give .ensures .0,
-      gave .give .ensures .1
-          ∙ ap (λ (value : ℕ). answerBytes 0 value zeroItem noCounts) (summed .calculate-hash .ensures ∙ ap (λ (key : List ℕ). hashOf (z .namespace) key (z .chunk)) (array .array-16 .ensures)),
-    )))
+    rw (right-size 57 _ (past .before .if1 .left), right-size 16 _ (past .if2 .left))
+    (given-of (λ (n : ℕ). Done) (λ (n : ℕ). n) (λ (n : ℕ). zeroItem) (summed .calculate-hash .ensures ∙ ap (λ (key : List ℕ). hashOf (z .namespace) key (z .chunk)) (array .array-16 .ensures)) (gave .give .ensures))))
