@@ -2,7 +2,7 @@
 --
 -- In order: tests of a whole list; bytes at an address; new bytes that only clear bits; the units of a write;
 -- units done one after the other; where units lie, and what they leave alone. The laws of lists and numbers (Lists) are passed on.
-use mathlib.Core.Path.{_≡_, refl, sym, ap, _∙_}
+use mathlib.Core.Path.{_≡_, refl, sym, ap, _∙_, subst}
 use mathlib.Core.Bool.{Bool, true, false, _&&_, cond, false≢true, and-eq-true-iff}
 use mathlib.Core.List.{List, [], _∷_, _++_, append-assoc}
 use mathlib.Core.Logic.{_⊎_, inl, inr}
@@ -11,11 +11,11 @@ use native.Mathlib.Nat.{le-of-suc-le-suc, lt-of-le-of-lt, zero-add, suc-add, add
 use native.Mathlib.Omega.{arith}
 use lib.Bits.{bitAnd, and-le-l, and-le-r, and-comm, and-self}
 use lib.ListN.{length, take, drop, getD, set, replicate, length-append, replicate-append-replicate, take-append-drop}
-use lib.Seq.{take-nil, take-append-seam}
+use lib.Seq.{take-nil}
 use borrow.Author.Tests.{eqb-true, eq-eqb, ne-eqb}
-pub use Rattle.flash.proofs.Lists.{take-append, Bytes, bytes-nil, bytes-cons, bytes-of-getD, bytes-append, bytes-take, bytes-drop, bytes-ones, neither, every-append, every-drop, every-past, four-suc, and-ones, bit-and-assoc}
+pub use Rattle.flash.proofs.Lists.{take-append, drop-take, Bytes, bytes-nil, bytes-cons, bytes-of-getD, bytes-append, bytes-take, bytes-drop, bytes-ones, neither, every-append, every-drop, every-past, four-suc, and-ones, bit-and-assoc}
 use Rattle.flash.proofs.Lists.{four-more}
-use Rattle.flash.specs.Flash.{isOnes, allOnes, program, Unit4, unit, tailUnits, units, run}
+use Rattle.flash.specs.Flash.{isOnes, allOnes, program, Unit4, unit, tailUnits, units, run, OnlyClears, clears-nil, clears-cons}
 
 -- ---- tests of a whole list
 
@@ -151,11 +151,6 @@ program-padded {image} address bytes n b =
 
 -- ---- new bytes that only clear bits
 
--- no bit of the new bytes is set that is clear in the old
-pub data OnlyClears : List ℕ → List ℕ → Type 0 where
-  clears-nil : OnlyClears [] []
-  clears-cons : {y x : ℕ} {old new : List ℕ} → bitAnd y x ≡ x → OnlyClears old new → OnlyClears (y ∷ old) (x ∷ new)
-
 pub length-clears : {old new : List ℕ} → OnlyClears old new → length new ≡ length old
 length-clears clears-nil = refl
 length-clears (clears-cons e o) = ap suc (length-clears o)
@@ -168,6 +163,10 @@ pub clears-trans : {xs ys zs : List ℕ} → OnlyClears xs ys → OnlyClears ys 
 clears-trans clears-nil clears-nil = clears-nil
 clears-trans (clears-cons {y = x} {x = y} e o) (clears-cons {x = z} f p) =
     clears-cons (ap (bitAnd x) (sym f) ∙ sym (bit-and-assoc x y z) ∙ ap (λ (n : ℕ). bitAnd n z) e ∙ f) (clears-trans o p)
+
+pub bytes-clears : {old new : List ℕ} → Bytes old → OnlyClears old new → Bytes new
+bytes-clears b clears-nil = bytes-nil
+bytes-clears (bytes-cons h b) (clears-cons {y} {x} e o) = bytes-cons {byte = x} (omega (arith, and-le-l y x)) (bytes-clears b o)
 
 -- erased bytes: every byte only clears bits of 0xFF
 pub clears-ones : {bytes : List ℕ} → Bytes bytes → OnlyClears (replicate (length bytes) 0xFF) bytes
@@ -300,6 +299,13 @@ rising-units address (a ∷ b ∷ []) = rising-tail address a b 0xFF 0xFF (allOn
 rising-units address (a ∷ b ∷ c ∷ []) = rising-tail address a b c 0xFF (allOnes (a ∷ b ∷ c ∷ 0xFF ∷ []))
 rising-units address (a ∷ b ∷ c ∷ d ∷ bytes) = rising-cons address a b c d (rising-units (address + 4) bytes)
 
+pub rising-drop : {address : ℕ} {plan : List Unit4} (n : ℕ) → Rising address plan → Rising (address + 4 * n) (drop n plan)
+rising-drop {address} zero r = rw (add-zero address) r
+rising-drop (suc n) rising-nil = rising-nil
+rising-drop (suc n) (rising-cons address a b c d {plan = plan} r) =
+    let more : address + 4 + 4 * n ≡ address + 4 * suc n = omega arith in
+    subst (λ (from : ℕ). Rising from (drop n plan)) more (rising-drop n r)
+
 -- ---- units one after the other
 
 pub run-append : (us vs : List Unit4) (image : List ℕ) → run (us ++ vs) image ≡ run vs (run us image)
@@ -416,20 +422,21 @@ take-run image within-nil = refl
 take-run {from} image (within-cons address bytes h g w) =
     take-run (program image address bytes) w ∙ take-program from image address bytes h
 
+-- so the bytes of the first n units stay as these left them
+pub take-rising : {address : ℕ} {plan : List Unit4} (n : ℕ) (image : List ℕ) → Rising address plan
+    → take (address + 4 * n) (run (take n plan) image) ≡ take (address + 4 * n) (run plan image)
+take-rising {address} {plan} n image r =
+    sym
+    (ap (λ (us : List Unit4). take (address + 4 * n) (run us image)) (sym (take-append-drop n plan))
+    ∙ ap (take (address + 4 * n)) (run-append (take n plan) (drop n plan) image)
+    ∙ take-run (run (take n plan) image) (within-rising (rising-drop n r)))
+
 -- what lies after all of them
 pub drop-run : {from to : ℕ} {plan : List Unit4} (image : List ℕ) → Within from to plan → drop to (run plan image) ≡ drop to image
 unfolding run
 drop-run image within-nil = refl
 drop-run {to = to} image (within-cons address bytes h g w) =
     drop-run (program image address bytes) w ∙ drop-program to image address bytes g
-
--- a front that they do not reach
-pub run-past : {to : ℕ} {plan : List Unit4} (front rest : List ℕ) → Within (length front) to plan
-    → run plan (front ++ rest) ≡ front ++ drop (length front) (run plan (front ++ rest))
-run-past {plan = plan} front rest w =
-    let after = run plan (front ++ rest) in
-    sym (take-append-drop (length front) after)
-    ∙ ap (λ (kept : List ℕ). kept ++ drop (length front) after) (take-run (front ++ rest) w ∙ take-append-seam front rest)
 
 -- a front that they do not leave
 pub run-inside : {from to : ℕ} {plan : List Unit4} (front rest : List ℕ) → Within from to plan → to ≤ length front

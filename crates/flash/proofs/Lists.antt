@@ -6,7 +6,7 @@ use mathlib.Core.Path.{_≡_, refl, sym, ap, ap₂, _∙_}
 use mathlib.Core.Bool.{Bool, true, false, _&&_, _||_, false≢true, and-assoc}
 use mathlib.Core.List.{List, [], _∷_, _++_}
 use Prim.Native.Nat.{ℕ, zero, suc, _≤_, _<_, _+_, _-_, _*_, _/_, _%_, _^_, min, zero-le, suc-le-suc}
-use native.Mathlib.Nat.{mod-eq-of-lt, zero-add, pow-succ', sub-zero}
+use native.Mathlib.Nat.{mod-eq-of-lt, zero-add, suc-add, pow-succ', sub-zero}
 use native.Mathlib.Numerals.{add-one}
 use native.Mathlib.Omega.{arith}
 use lib.Arith.{bin-ind}
@@ -24,6 +24,12 @@ take-append zero (x ∷ xs) ys = let e : 0 - suc (length xs) ≡ 0 = omega arith
 take-append (suc n) (x ∷ xs) ys =
     let e : suc n - suc (length xs) ≡ n - length xs = omega arith in
     rw e (ap (λ (rest : List _). x ∷ rest) (take-append n xs ys))
+
+-- a part cut out of the front that holds it
+pub drop-take : {A : Type 0} (n k : ℕ) (xs : List A) → drop n (take (n + k) xs) ≡ take k (drop n xs)
+drop-take zero k xs = rw (zero-add k)
+drop-take (suc n) k [] = rw (suc-add, take-nil k)
+drop-take (suc n) k (x ∷ xs) = rw suc-add (drop-take n k xs)
 
 pub drop-replicate : {A : Type 0} (k n : ℕ) (x : A) → drop k (replicate n x) ≡ replicate (n - k) x
 drop-replicate zero n x = rw (sub-zero n)

@@ -13,6 +13,7 @@ use lib.Seq.{drop-cons, drop-length, drop-drop, take-take, take-at, getD-take}
 use borrow.Author.Tests.{eq-eqb, ne-eqb, not-true}
 use Rattle.flash.specs.Flash.{every}
 pub use Rattle.flash.proofs.Lists.{drop-replicate, copied-next, pow-four}
+use Rattle.flash.proofs.Lists.{Bytes, bytes-nil, bytes-cons}
 use Rattle.sector.specs.declared.Answer.{Answer}
 use Rattle.sector.specs.declared.Answer.the-variants.{Done}
 use Rattle.sector.specs.declared.EntryMapState.{EntryMapState}
@@ -30,6 +31,14 @@ number-littleEndian (suc n) x h =
     let bound : x < 256 ^ n * 256 = rw (pow-suc 256 n) at h in
     let rest = number-littleEndian n (x / 256) (div-lt-iff-lt-mul (omega arith) .1 bound) in
     omega arith
+
+-- and bytes are those of the number that they hold
+pub littleEndian-number : {bytes : List ℕ} → Bytes bytes → littleEndian (length bytes) (number bytes) ≡ bytes
+littleEndian-number bytes-nil = refl
+littleEndian-number (bytes-cons {byte} {bytes} h b) =
+    let low : (byte + 256 * number bytes) % 256 ≡ byte = omega arith in
+    let rest : (byte + 256 * number bytes) / 256 ≡ number bytes = omega arith in
+    rw (low, rest) (ap (λ (more : List ℕ). byte ∷ more) (littleEndian-number b))
 
 pub field-cons : (offset n : ℕ) (bytes : List ℕ) → offset < length bytes
     → field offset (suc n) bytes ≡ getD bytes offset 0 ∷ field (offset + 1) n bytes

@@ -1,19 +1,18 @@
 -- Marks of the entry map (specs/Map.antt): states as bits, states packed into bytes, a range marked, and the units that program it.
 --
 -- In order: AND of two states; four states in a byte; all states of a map; new states that only clear bits; a range of states marked,
--- and how many are Written then; the map's bytes marked; what the first units of a new map, and of a marked one, leave in an image.
+-- and how many are Written then; the map's bytes marked; the parts of an image, and what the units of a marked map leave in it.
 use mathlib.Core.Path.{_≡_, refl, sym, ap, ap₂, _∙_}
 use mathlib.Core.Bool.{Bool, true, false, cond, false≢true}
 use mathlib.Core.List.{List, [], _∷_, _++_, append-assoc}
 use Prim.Native.Nat.{ℕ, zero, suc, _≤_, _<_, _+_, _-_, _*_, _/_, _%_}
-use native.Mathlib.Nat.{le-of-suc-le-suc, not-suc-le-zero, suc-inj, add-zero, zero-add, suc-add, div-div-eq-div-mul, div-add-mod', mod-eq-of-lt}
-use native.Mathlib.Decide.{decLe}
+use native.Mathlib.Nat.{le-of-suc-le-suc, not-suc-le-zero, add-zero, zero-add, suc-add, div-div-eq-div-mul, div-add-mod', mod-eq-of-lt}
 use native.Mathlib.Omega.{arith}
-use lib.Bits.{bitAnd, and-block}
-use lib.ListN.{length, take, drop, getD, replicate, length-append, length-take, length-drop, take-append-drop}
-use lib.Seq.{take-set-le, drop-set-lt, take-take, take-all, drop-drop, take-at, drop-at}
-use Rattle.flash.specs.Flash.{every, program, Unit4, units, run}
-use Rattle.flash.proofs.Laws.{four-suc, Bytes, bytes-nil, bytes-cons, bytes-program, OnlyClears, clears-nil, clears-cons, clears-refl, clears-trans, clears-program, length-clears, program-one, program-past, program-inside, program-splice, run-take-units, length-units-whole, Within, within-wider, within-units}
+use lib.Bits.{bitAnd, and-block, and-le-l}
+use lib.ListN.{length, take, drop, getD, replicate, length-append, length-take, take-append-drop}
+use lib.Seq.{take-set-le, drop-set-lt, take-take, drop-drop, take-at, drop-at, getD-take}
+use Rattle.flash.specs.Flash.{every, run, OnlyClears, clears-nil, clears-cons}
+use Rattle.flash.proofs.Laws.{drop-take, four-suc, Bytes, bytes-nil, bytes-cons, bytes-program, clears-refl, clears-trans, clears-program, program-one, program-past, program-inside, program-splice, run-units, rising-units, take-rising, Within, within-wider, within-units}
 use Rattle.sector.proofs.Laws.{bits-le}
 use Rattle.sector.specs.declared.EntryMapState.{EntryMapState}
 use Rattle.sector.specs.declared.EntryMapState.the-variants.{Empty, Written, Erased, Illegal}
@@ -158,11 +157,6 @@ unpack-take (suc n) [] = rw four-suc
 unpack-take (suc n) (byte ∷ map) =
     rw four-suc (ap (statesBefore byte) (unpack-take n map))
 
-pub unpack-drop : (n : ℕ) (map : List ℕ) → unpack (drop n map) ≡ drop (4 * n) (unpack map)
-unpack-drop zero map = refl
-unpack-drop (suc n) [] = rw four-suc
-unpack-drop (suc n) (byte ∷ map) = rw four-suc (unpack-drop n map)
-
 -- ---- new states that only clear bits
 
 pub data StatesClear : List EntryMapState → List EntryMapState → Type 0 where
@@ -185,6 +179,12 @@ clears-pack (states-cons e (states-cons f states-nil)) = clears-nil
 clears-pack (states-cons e (states-cons f (states-cons g states-nil))) = clears-nil
 clears-pack (states-cons {s = a} {t = p} e (states-cons {s = b} {t = q} f (states-cons {s = c} {t = r} g (states-cons {s = d} {t = s} h rest)))) =
     clears-cons {x = packed p q r s} (and-packed a b c d p q r s ∙ rw (e, f, g, h)) (clears-pack rest)
+
+-- some of the states
+pub states-take : {old new : List EntryMapState} (n : ℕ) → StatesClear old new → StatesClear (take n old) (take n new)
+states-take zero c = states-nil
+states-take (suc n) states-nil = states-nil
+states-take (suc n) (states-cons e c) = states-cons e (states-take n c)
 
 -- ---- a range of states marked
 
@@ -357,6 +357,22 @@ unpack-and byte bytes a b c d h =
     ∙ ap (λ (x : ℕ). unpack (x ∷ bytes)) (and-packed s0 s1 s2 s3 a b c d)
     ∙ unpack-packed (both s0 a) (both s1 b) (both s2 c) (both s3 d) bytes
 
+-- bytes that only clear bits: their states do too
+pub clears-unpack : {old new : List ℕ} → Bytes old → OnlyClears old new → StatesClear (unpack old) (unpack new)
+clears-unpack b clears-nil = states-nil
+clears-unpack (bytes-cons {byte = y} h b) (clears-cons {x = x} {old} {new} e o) =
+    let x0 = stateOfBits (x % 4) in
+    let x1 = stateOfBits (x / 4 % 4) in
+    let x2 = stateOfBits (x / 16 % 4) in
+    let x3 = stateOfBits (x / 64 % 4) in
+    let parts = packed-states x (omega (arith, and-le-l y x)) in
+    let each = ap (λ (byte : ℕ). unpack (byte ∷ [])) (sym (ap (bitAnd y) parts ∙ e)) ∙ unpack-and y [] x0 x1 x2 x3 h in
+    let e0 : both (stateOfBits (y % 4)) x0 ≡ x0 = cc in
+    let e1 : both (stateOfBits (y / 4 % 4)) x1 ≡ x1 = cc in
+    let e2 : both (stateOfBits (y / 16 % 4)) x2 ≡ x2 = cc in
+    let e3 : both (stateOfBits (y / 64 % 4)) x3 ≡ x3 = cc in
+    states-cons e0 (states-cons e1 (states-cons e2 (states-cons e3 (clears-unpack b o))))
+
 mark-past : (s : EntryMapState) (i byte : ℕ) (map : List ℕ) → mark s (suc (suc (suc (suc i)))) (byte ∷ map) ≡ byte ∷ mark s i map
 mark-past s i byte map =
     let quotient : suc (suc (suc (suc i))) / 4 ≡ suc (i / 4) = omega arith in
@@ -426,7 +442,7 @@ drop-markRange s i (suc n) map k h =
     drop-markRange s (suc i) n (mark s i map) k (omega arith)
     ∙ drop-set-lt k map (i / 4) (bitAnd (getD map (i / 4) 0) (markMask s (i % 4))) (omega arith)
 
--- ---- the first units of a new map in an image
+-- ---- the parts of an image
 
 -- an image is its header, its map and its entries
 pub image-parts : (image : List ℕ) → image ≡ take mapOffset image ++ (mapOf image ++ drop itemsOffset image)
@@ -444,48 +460,23 @@ entries-parts header map entries h m =
     ap (drop itemsOffset) (sym (append-assoc header map entries))
     ∙ drop-at (header ++ map) entries 64 (rw length-append (omega arith))
 
--- where two maps agree from k on, what is after is the new one's too
-splice-past : (k m : ℕ) (old new : List ℕ) → k ≤ m → drop k old ≡ drop k new → take m new ++ drop m old ≡ new
-splice-past k m old new h same =
-    let split : k + (m - k) ≡ m = omega arith in
-    let behind : drop m old ≡ drop m new =
-    ap (λ (n : ℕ). drop n old) (sym split) ∙ sym (drop-drop (m - k) k old) ∙ ap (drop (m - k)) same
-    ∙ drop-drop (m - k) k new ∙ ap (λ (n : ℕ). drop n new) split in
-    ap (λ (rest : List ℕ). take m new ++ rest) behind ∙ take-append-drop m new
+-- images that agree up to a byte of the map: so do their maps
+pub map-front : (k : ℕ) (xs ys : List ℕ) → k ≤ 32 → take (mapOffset + k) xs ≡ take (mapOffset + k) ys → take k (mapOf xs) ≡ take k (mapOf ys)
+map-front k xs ys h e = part xs ∙ ap (drop mapOffset) e ∙ sym (part ys)
+  where
+    part : (image : List ℕ) → take k (mapOf image) ≡ drop mapOffset (take (mapOffset + k) image)
+    part image = take-take k 32 (drop mapOffset image) h ∙ sym (drop-take mapOffset k image)
 
--- a new map that only clears bits of the old, and agrees with it but for c units from unit a on
-module _ (a c : ℕ) (header old new entries : List ℕ) (header-long : length header ≡ 32) (map-long : length old ≡ 32)
-    (clears : OnlyClears old new) (front : take (4 * a) old ≡ take (4 * a) new) (back : drop (4 * (a + c)) old ≡ drop (4 * (a + c)) new)
-    (inside : a + c ≤ 8) (bytes : Bytes (header ++ (old ++ entries))) where
-  program-map : (j : ℕ) → j ≤ c
-      → program (header ++ (old ++ entries)) (mapOffset + 4 * a) (take (4 * j) (drop (4 * a) new))
-      ≡ header ++ ((take (4 * (a + j)) new ++ drop (4 * (a + j)) old) ++ entries)
-  program-map j h =
-      let part = take (4 * j) (drop (4 * a) new) in
-      let fits : 4 * a + length part ≤ length old = rw (length-take, map-long) (omega arith) in
-      let place : 4 * a + 4 * j ≡ 4 * (a + j) = omega arith in
-      (rw header-long at (program-past header (old ++ entries) (4 * a) part))
-      ∙ ap (λ (rest : List ℕ). header ++ rest)
-      (program-inside old entries (4 * a) part fits
-      ∙ ap (λ (map : List ℕ). map ++ entries) (rw place at (program-splice (4 * a) (4 * j) clears front)))
-
-  -- the new map's bytes up to the unit reached, and then the old ones; header and entries stay
-  pub run-take-map : (j : ℕ)
-      → run (take j (units (mapOffset + 4 * a) (field (4 * a) (4 * c) new))) (header ++ (old ++ entries))
-      ≡ header ++ ((take (4 * (a + j)) new ++ drop (4 * (a + j)) old) ++ entries)
-  run-take-map j = run-take-units j (mapOffset + 4 * a) (field (4 * a) (4 * c) new) bytes ∙ go (decLe j c)
-    where
-      go : Dec (j ≤ c)
-          → program (header ++ (old ++ entries)) (mapOffset + 4 * a) (take (4 * j) (field (4 * a) (4 * c) new))
-          ≡ header ++ ((take (4 * (a + j)) new ++ drop (4 * (a + j)) old) ++ entries)
-      go (yes h) = rw (take-take (4 * j) (4 * c) (drop (4 * a) new) (omega arith)) (program-map j h)
-      go (no h) =
-          let all : length (field (4 * a) (4 * c) new) ≤ 4 * j = rw length-take (omega arith) in
-          rw (take-all (4 * j) (field (4 * a) (4 * c) new) all)
-          (program-map c (omega arith)
-          ∙ ap (λ (map : List ℕ). header ++ (map ++ entries))
-          (splice-past (4 * (a + c)) (4 * (a + c)) old new (omega arith) back
-          ∙ sym (splice-past (4 * (a + c)) (4 * (a + j)) old new (omega arith) back)))
+-- maps that agree up to a byte: so do the states in it
+pub state-front : (k i : ℕ) (xs ys : List ℕ) (s : EntryMapState) → take k xs ≡ take k ys → i < 4 * k → i < entriesPerPage
+    → getD (statesOf xs) i s ≡ getD (statesOf ys) i s
+state-front k i xs ys s e h g = part xs ∙ ap (λ (map : List ℕ). getD (unpack map) i s) e ∙ sym (part ys)
+  where
+    part : (map : List ℕ) → getD (statesOf map) i s ≡ getD (unpack (take k map)) i s
+    part map =
+        getD-take entriesPerPage (unpack map) i s g
+        ∙ sym (getD-take (4 * k) (unpack map) i s h)
+        ∙ ap (λ (states : List EntryMapState). getD states i s) (sym (unpack-take k map))
 
 -- ---- the units of a marked map
 
@@ -498,64 +489,35 @@ within-mapUnits i n map h g =
     let long : length part ≤ 4 * count = rw length-take (omega arith) in
     within-wider 32 64 (omega arith) (omega arith) (within-units (mapOffset + 4 * first) part)
 
--- one unit for every sixteen entries that the range touches
-pub length-mapUnits : (i n : ℕ) (map : List ℕ) → length map ≡ 32 → 1 ≤ n → i + n ≤ 128 → length (mapUnits i n map) ≡ (i + n - 1) / 16 + 1 - i / 16
+-- the marked map, unit by unit: header and entries stay
+pub run-mapUnits : (s : EntryMapState) (i n : ℕ) (header map entries : List ℕ) → length header ≡ 32 → length map ≡ 32
+    → Bytes (header ++ (map ++ entries)) → 1 ≤ n → i + n ≤ 128
+    → run (mapUnits i n (markRange s i n map)) (header ++ (map ++ entries)) ≡ header ++ (markRange s i n map ++ entries)
 unfolding mapUnits
-length-mapUnits i n map l h g =
+run-mapUnits s i n header map entries header-long map-long bytes some inside =
     let first = i / 16 in
     let count = (i + n - 1) / 16 + 1 - first in
-    length-units-whole (mapOffset + 4 * first) count (field (4 * first) (4 * count) map) (rw (length-take, length-drop, l) (omega arith))
+    let new = markRange s i n map in
+    let part = field (4 * first) (4 * count) new in
+    let end = 4 * first + 4 * count in
+    let fits : 4 * first + length part ≤ length map = rw (length-take, map-long) (omega arith) in
+    run-units (mapOffset + 4 * first) part bytes
+    ∙ (rw header-long at (program-past header (map ++ entries) (4 * first) part))
+    ∙ ap (λ (rest : List ℕ). header ++ rest)
+    (program-inside map entries (4 * first) part fits
+    ∙ ap (λ (marks : List ℕ). marks ++ entries)
+    (program-splice (4 * first) (4 * count) (clears-markRange s i n map) (sym (take-markRange s i n map (4 * first) (omega arith)))
+    ∙ ap (λ (rest : List ℕ). take end new ++ rest) (sym (drop-markRange s i n map end (omega arith)))
+    ∙ take-append-drop end new))
 
-module _ (s : EntryMapState) (i n : ℕ) (header map entries : List ℕ) (header-long : length header ≡ 32) (map-long : length map ≡ 32)
-    (bytes : Bytes (header ++ (map ++ entries))) (some : 1 ≤ n) (inside : i + n ≤ 128) where
-  -- after the first j units of the mark: the marked map up to the unit reached, and then the map as it was
-  pub run-take-mapUnits : (j : ℕ)
-      → run (take j (mapUnits i n (markRange s i n map))) (header ++ (map ++ entries))
-      ≡ header ++ ((take (4 * (i / 16 + j)) (markRange s i n map) ++ drop (4 * (i / 16 + j)) map) ++ entries)
-  unfolding mapUnits
-  run-take-mapUnits j =
-      let first = i / 16 in
-      let count = (i + n - 1) / 16 + 1 - first in
-      run-take-map first count header map (markRange s i n map) entries header-long map-long (clears-markRange s i n map)
-      (sym (take-markRange s i n map (4 * first) (omega arith)))
-      (sym (drop-markRange s i n map (4 * (first + count)) (omega arith)))
-      (omega arith) bytes j
-
-  -- after all of them
-  pub run-mapUnits : run (mapUnits i n (markRange s i n map)) (header ++ (map ++ entries)) ≡ header ++ (markRange s i n map ++ entries)
-  run-mapUnits =
-      let new = markRange s i n map in
-      let count = (i + n - 1) / 16 + 1 - i / 16 in
-      let end = 4 * (i / 16 + count) in
-      let counted = length-mapUnits i n new (length-clears (clears-markRange s i n map) ∙ map-long) some inside in
-      ap (λ (plan : List Unit4). run plan (header ++ (map ++ entries))) (sym (take-all count (mapUnits i n new) (omega arith)))
-      ∙ run-take-mapUnits count
-      ∙ ap (λ (marks : List ℕ). header ++ (marks ++ entries))
-      (splice-past end end map new (omega arith) (sym (drop-markRange s i n map end (omega arith))))
-
--- ---- the states in between
-
-pub unpack-splice : (k : ℕ) (new old : List ℕ) → unpack (take k new ++ drop k old) ≡ take (4 * k) (unpack new) ++ drop (4 * k) (unpack old)
-unpack-splice k new old = rw (unpack-append, unpack-take, unpack-drop)
-
-take-splice : (l k : ℕ) (new old : List EntryMapState) → length new ≡ length old
-    → take l (take k new ++ drop k old) ≡ take k (take l new) ++ drop k (take l old)
-take-splice zero zero new old e = refl
-take-splice zero (suc k) new old e = refl
-take-splice (suc l) zero new old e = refl
-take-splice (suc l) (suc k) [] [] e = refl
-take-splice (suc l) (suc k) [] (t ∷ old) e = absurd (omega arith)
-take-splice (suc l) (suc k) (s ∷ new) [] e = absurd (omega arith)
-take-splice (suc l) (suc k) (s ∷ new) (t ∷ old) e =
-    ap (λ (rest : List EntryMapState). s ∷ rest) (take-splice l k new old (suc-inj e))
-
--- the states of the page's entries, where the first k bytes are those of a marked map
-pub statesOf-splice : {map : List ℕ} (k : ℕ) (s : EntryMapState) (i n : ℕ) → Bytes map
-    → statesOf (take k (markRange s i n map) ++ drop k map)
-    ≡ take (4 * k) (marked s i n (statesOf map)) ++ drop (4 * k) (statesOf map)
-statesOf-splice {map} k s i n b =
-    ap (take entriesPerPage)
-    (unpack-splice k (markRange s i n map) map
-    ∙ ap (λ (states : List EntryMapState). take (4 * k) states ++ drop (4 * k) (unpack map)) (unpack-markRange s i n b))
-    ∙ take-splice entriesPerPage (4 * k) (marked s i n (unpack map)) (unpack map) (length-marked s i n (unpack map))
-    ∙ ap (λ (states : List EntryMapState). take (4 * k) states ++ drop (4 * k) (statesOf map)) (marked-take s entriesPerPage i n (unpack map))
+-- the bytes of the first unit are as the whole mark leaves them once that unit is done
+pub first-mapUnit : (i n : ℕ) (map image : List ℕ) (j : ℕ) → 1 ≤ j
+    → take (mapOffset + 4 * (i / 16) + 4) (run (take j (mapUnits i n map)) image) ≡ take (mapOffset + 4 * (i / 16) + 4) (run (mapUnits i n map) image)
+unfolding mapUnits
+first-mapUnit i n map image j h =
+    let address = mapOffset + 4 * (i / 16) in
+    let plan = mapUnits i n map in
+    let far : address + 4 ≤ address + 4 * j = omega arith in
+    sym (take-take (address + 4) (address + 4 * j) (run (take j plan) image) far)
+    ∙ ap (take (address + 4)) (take-rising j image (rising-units address _))
+    ∙ take-take (address + 4) (address + 4 * j) (run plan image) far

@@ -1,11 +1,12 @@
 -- Entries cut out of bytes that are joined, or longer. Other laws of `chunks` are sector's (Laws) and opening_reading's (Entries).
-use mathlib.Core.Path.{_≡_, refl, sym, ap, ap₂, _∙_}
+use mathlib.Core.Path.{_≡_, refl, ap, ap₂, _∙_}
 use mathlib.Core.List.{List, [], _∷_, _++_}
 use Prim.Native.Nat.{ℕ, zero, suc, _+_, _*_, _≤_}
 use native.Mathlib.Nat.{suc-add, zero-add}
 use native.Mathlib.Omega.{arith}
 use lib.ListN.{length, take, drop, length-drop}
-use lib.Seq.{take-append-le, drop-append-le, take-take, take-nil}
+use lib.Seq.{take-append-le, drop-append-le, take-take}
+use Rattle.flash.proofs.Laws.{drop-take}
 use Rattle.sector.specs.Layout.{chunks}
 use Rattle.sector.proofs.Laws.{suc-entries}
 
@@ -18,11 +19,6 @@ chunks-append (suc m) n xs ys h =
     let s : 32 ≤ length xs = omega arith in
     rw (suc-add m n, take-append-le 32 xs ys s, drop-append-le 32 xs ys s)
     (ap (λ (r : List (List ℕ)). take 32 xs ∷ r) (chunks-append m n (drop 32 xs) ys (rw (length-drop 32 xs) (omega arith))))
-
-pub drop-take : (m n : ℕ) (bytes : List ℕ) → drop m (take (m + n) bytes) ≡ take n (drop m bytes)
-drop-take zero n bytes = rw zero-add
-drop-take (suc m) n [] = rw suc-add (sym (take-nil n))
-drop-take (suc m) n (x ∷ bytes) = rw suc-add (drop-take m n bytes)
 
 -- only the bytes of the entries matter
 pub chunks-take : (n : ℕ) (bytes : List ℕ) → chunks n (take (32 * n) bytes) ≡ chunks n bytes

@@ -8,10 +8,11 @@ use mathlib.Core.Logic.{inl}
 use Prim.Native.Nat.{ℕ, _≤_, _<_}
 use lib.Dec.{eqb}
 use lib.ListN.{length, replicate}
+use lib.Seq.{take-all}
 use borrow.Author.Tests.{eqb-true, eq-eqb, ltb-false, not-false}
 use Rattle.crc.specs.Crc.{crc32}
 use Rattle.crc.proofs.Laws.{crc-lt}
-use Rattle.flash.specs.Flash.{every, allOnes}
+use Rattle.flash.specs.Flash.{Unit4, run, every, allOnes}
 use Rattle.flash.proofs.Laws.{Bytes, bytes-append, bytes-ones, replicate-all-ones}
 use Rattle.page.specs.declared.Listed.{Listed}
 use Rattle.page.specs.Record.{Page, noItem, placeZero, isBlank, fitToUse, uninitialized}
@@ -34,7 +35,7 @@ use Rattle.theorem_power_cut.proofs.Accepted.{begins-accepted, done-who
 use Rattle.theorem_power_cut.proofs.Headers.{HeaderOpens, image-opens}
 use Rattle.theorem_power_cut.proofs.Held.{Held}
 use Rattle.theorem_power_cut.proofs.Standing.{Standing, standing-kept}
-use Rattle.theorem_power_cut.proofs.InitialiseCut.{header-long, header-bytes, stopped, plan-long, whole, same-image}
+use Rattle.theorem_power_cut.proofs.InitialiseCut.{header-long, header-bytes, image-after, run-header}
 use Rattle.theorem_power_cut.proofs.Demand.{held-opening, held-image}
 
 -- ---- the finished page
@@ -44,11 +45,10 @@ module _ (sequence : ℕ) (small : sequence < 0x1_0000_0000) where
   header = headerBytes sequence
 
   abbrev finished : List ℕ
-  finished = initialiseImage (replicate 4096 0xFF) uninitialized sequence 8
+  finished = run (initialisePlan sequence) (replicate 4096 0xFF)
 
   behind : finished ≡ header ++ (replicate 32 0xFF ++ replicate 4032 0xFF)
-  unfolding headerBytes
-  behind = stopped sequence 8
+  behind = run-header sequence
 
   standing : Standing finished []
   unfolding chunks
@@ -151,7 +151,7 @@ finished-page-opens image page sequence n small code d =
     let enough : length (initialisePlan sequence) ≤ n = ltb-false n (length (initialisePlan sequence)) (done-whole checks refl stops-not page new d) in
     let h = finished-held sequence small in
     let after : initialiseImage image page sequence n ≡ finished sequence small =
-    same-image image page sequence n ok ∙ whole sequence n enough ∙ ap (initialiseImage (replicate 4096 0xFF) uninitialized sequence) (plan-long sequence) in
+    image-after image page sequence n ok ∙ ap (λ (plan : List Unit4). run plan (replicate 4096 0xFF)) (take-all n (initialisePlan sequence) enough) in
     let answer-is : outcome checks stops-not page new ≡ answered Done new = rw (ok, done-whole checks refl stops-not page new d) in (
       ap opening after ∙ held-opening h ∙ ap (answered Done) record-is ∙ sym answer-is,
       ap keptItems after ∙ standing-kept (h .standing),

@@ -1,23 +1,28 @@
 -- Headers that open, and the state word Full on them.
 --
 -- In order: what of a header decides whether its page opens; the state word; a header with Full programmed, or not.
-use mathlib.Core.Path.{_≡_, refl, sym, ap, _∙_, subst}
-use mathlib.Core.Bool.{Bool, true, false, _&&_, not, cond, and-eq-true-iff}
+use mathlib.Core.Path.{_≡_, refl, sym, ap, ap₂, _∙_, subst}
+use mathlib.Core.Bool.{Bool, true, false, _&&_, not, cond, false≢true, and-eq-true-iff}
 use mathlib.Core.List.{List, [], _∷_, _++_}
-use Prim.Native.Nat.{ℕ, zero, suc, _≤_}
+use mathlib.Core.Logic.{_⊎_, inl, inr}
+use Prim.Native.Nat.{ℕ, _≤_}
+use native.Mathlib.Decide.{decLe}
 use native.Mathlib.Omega.{arith}
+use lib.Bits.{bitAnd, and-le-l}
 use lib.Dec.{eqb}
 use lib.ListN.{length, take, drop, take-append-drop}
-use lib.Seq.{getD-drop, take-length, drop-drop}
+use lib.Seq.{getD-drop, drop-drop, length-take-le}
 use borrow.Author.Tests.{eqb-true}
 use Rattle.crc.specs.Crc.{crc32}
-use Rattle.flash.specs.Flash.{units, run, program, allOnes}
-use Rattle.flash.proofs.Laws.{Bytes, bytes-nil, bytes-cons}
+use Rattle.flash.specs.Flash.{units, run, program, allOnes, OnlyClears, clears-nil, clears-cons, Between}
+use Rattle.flash.proofs.Laws.{Bytes, bytes-take}
+use Rattle.flash.proofs.Cuts.{between-same, between-ends, BeforeBack, before-back}
 use Rattle.page.specs.Writing.{fullUnits}
 use Rattle.sector.specs.declared.PageState.the-variants.{Uninitialized, Active, Full, Freeing, Corrupt, Invalid}
 use Rattle.sector.specs.Header.{stateOfWord, headerCrc, stateBytes, isUninitialized, isInUse}
 use Rattle.sector.specs.Item.{crcStart}
-use Rattle.sector.specs.Layout.{number, stateWord, versionOf, storedHeaderCrc}
+use Rattle.sector.specs.Layout.{number, littleEndian, stateWord, versionOf, storedHeaderCrc}
+use Rattle.sector.proofs.Laws.{littleEndian-number}
 use Rattle.opening.specs.Opening.{headerVerdictOf}
 use Rattle.opening.specs.declared.HeaderVerdict.the-variants.{Blank, Opens, WrongPageState, WrongVersion, WrongHeaderCrc}
 use Rattle.theorem_writing.proofs.FitRecords.{known-state}
@@ -100,16 +105,8 @@ among-active word e =
 
 -- the bytes of a number are its own
 word-bytes : {header : List ℕ} → Bytes header → 4 ≤ length header → number (take 4 header) ≡ 0xFFFFFFFE → take 4 header ≡ stateBytes Active
-word-bytes bytes-nil h e = absurd (omega arith)
-word-bytes (bytes-cons ha bytes-nil) h e = absurd (omega arith)
-word-bytes (bytes-cons ha (bytes-cons hb bytes-nil)) h e = absurd (omega arith)
-word-bytes (bytes-cons ha (bytes-cons hb (bytes-cons hc bytes-nil))) h e = absurd (omega arith)
-word-bytes (bytes-cons {byte = a} ha (bytes-cons {byte = b} hb (bytes-cons {byte = c} hc (bytes-cons {byte = d} hd rest)))) h e =
-    let ea : a ≡ 0xFE = omega arith in
-    let eb : b ≡ 0xFF = omega arith in
-    let ec : c ≡ 0xFF = omega arith in
-    let ed : d ≡ 0xFF = omega arith in
-    rw (ea, eb, ec, ed)
+word-bytes {header} b h e =
+    sym (littleEndian-number (bytes-take 4 b)) ∙ ap₂ littleEndian (length-take-le 4 header h) e
 
 pub active-word : {header : List ℕ} → Bytes header → length header ≡ 32 → stateOfWord (stateWord header) ≡ Active → take 4 header ≡ stateBytes Active
 active-word {header} bytes size e = word-bytes bytes (omega arith) (among-active (stateWord header) e)
@@ -133,19 +130,45 @@ pub data FullOrNot (header after : List ℕ) : Type 0 where
   not-full : after ≡ header → FullOrNot header after
   is-full : after ≡ stateBytes Full ++ drop 4 header → FullOrNot header after
 
-pub full-cut : {header : List ℕ} (q end : ℕ) → take 4 header ≡ stateBytes Active → FullOrNot header (run (take q (fullUnits end)) header)
-unfolding run units allOnes
-full-cut {header} q end e = by-test (eqb end 126) q
+-- the state unit clears one bit
+one-bit : (byte : ℕ) → bitAnd 0xFE byte ≡ byte → bitAnd byte 0xFC ≡ 0xFC → (byte ≡ 0xFE) ⊎ (byte ≡ 0xFC)
+one-bit byte e f = by-size (omega (arith, and-le-l 0xFE byte)) (omega (arith, and-le-l byte 0xFC)) (decLe byte 0xFC) (decLe byte 0xFD)
   where
-    by-test : (last : Bool) (q : ℕ) → FullOrNot header (run (take q (cond last (units 0 (stateBytes Full)) [])) header)
-    by-test true zero = not-full refl
-    by-test true (suc zero) = is-full (full-programmed header e)
-    by-test true (suc (suc q)) = is-full (full-programmed header e)
-    by-test false zero = not-full refl
-    by-test false (suc q) = not-full refl
+    by-size : byte ≤ 0xFE → 0xFC ≤ byte → Dec (byte ≤ 0xFC) → Dec (byte ≤ 0xFD) → (byte ≡ 0xFE) ⊎ (byte ≡ 0xFC)
+    by-size upper lower (yes h) odd = inr (omega arith)
+    by-size upper lower (no h) (yes g) = let is : byte ≡ 0xFD = omega arith in absurd (false≢true (ap (eqb 0xFD) (rw is at e)))
+    by-size upper lower (no h) (no g) = inl (omega arith)
 
-pub full-whole : {header : List ℕ} (end : ℕ) → take 4 header ≡ stateBytes Active → FullOrNot header (run (fullUnits end) header)
-full-whole {header} end e = rw (take-length (fullUnits end)) at (full-cut {header = header} (length (fullUnits end)) end e)
+word-between : {word : List ℕ} → Between (stateBytes Active) word (stateBytes Full) → (word ≡ stateBytes Active) ⊎ (word ≡ stateBytes Full)
+word-between b = by-byte (before-back (0xFE ∷ []) (0xFC ∷ []) refl b)
+  where
+    by-byte : {word : List ℕ} → BeforeBack (0xFE ∷ []) (0xFC ∷ []) (0xFF ∷ 0xFF ∷ 0xFF ∷ []) word → (word ≡ stateBytes Active) ⊎ (word ≡ stateBytes Full)
+    by-byte s = by-clears (s .split) (s .between .begun) (s .between .left)
+      where
+        by-clears : {word first : List ℕ} → word ≡ first ++ (0xFF ∷ 0xFF ∷ 0xFF ∷ []) → OnlyClears (0xFE ∷ []) first → OnlyClears first (0xFC ∷ [])
+            → (word ≡ stateBytes Active) ⊎ (word ≡ stateBytes Full)
+        by-clears {word} e (clears-cons {x = byte} x clears-nil) (clears-cons y clears-nil) = by-bit (one-bit byte x y)
+          where
+            by-bit : (byte ≡ 0xFE) ⊎ (byte ≡ 0xFC) → (word ≡ stateBytes Active) ⊎ (word ≡ stateBytes Full)
+            by-bit (inl is) = inl (e ∙ ap (λ (b : ℕ). b ∷ 0xFF ∷ 0xFF ∷ 0xFF ∷ []) is)
+            by-bit (inr is) = inr (e ∙ ap (λ (b : ℕ). b ∷ 0xFF ∷ 0xFF ∷ 0xFF ∷ []) is)
+
+-- so a header between the Active one and what the state unit leaves is one of the two
+pub full-between : {header after : List ℕ} (end : ℕ) → take 4 header ≡ stateBytes Active → Between header after (run (fullUnits end) header)
+    → FullOrNot header after
+unfolding run units allOnes
+full-between {header} {after} end e b = by-test (eqb end 126) b
+  where
+    by-word : (s : BeforeBack (stateBytes Active) (stateBytes Full) (drop 4 header) after)
+        → (s .first ≡ stateBytes Active) ⊎ (s .first ≡ stateBytes Full) → FullOrNot header after
+    by-word s (inl is) = not-full (s .split ∙ ap (λ (word : List ℕ). word ++ drop 4 header) is ∙ sym (header-split header e))
+    by-word s (inr is) = is-full (s .split ∙ ap (λ (word : List ℕ). word ++ drop 4 header) is)
+
+    by-test : (last : Bool) → Between header after (run (cond last (units 0 (stateBytes Full)) []) header) → FullOrNot header after
+    by-test true b =
+        let s = before-back (stateBytes Active) (stateBytes Full) refl (between-ends (header-split header e) (full-programmed header e) b) in
+        by-word s (word-between (s .between))
+    by-test false b = not-full (between-same b)
 
 pub full-drop : {header after : List ℕ} → FullOrNot header after → drop 4 after ≡ drop 4 header
 full-drop (not-full e) = ap (drop 4) e

@@ -1,32 +1,37 @@
--- Initialise stopped at any unit: the page is erased, or is CorruptedData, or is the finished page.
+-- Initialise cut in one of its phases, inside a unit too: the page is erased, or is CorruptedData, or is the finished page.
 --
--- The version comes with the third unit and the CRC with the eighth; those between are 0xFF. So from the third unit on the page is the finished
--- one exactly where its CRC is 0xFFFFFFFF.
-use mathlib.Core.Path.{_≡_, refl, sym, ap, _∙_}
-use mathlib.Core.Bool.{Bool, true, false, not, cond}
+-- In order: the header in three parts, and the images between the phases; what opening makes of a cut, whatever the phase; the phases; any call that
+-- is not refused.
+-- The phases are the state word and the sequence; the version, and 0xFF after it; the CRC. The version is 0xFF before the second ends. From then on
+-- the page is the finished one exactly where the CRC is right.
+use mathlib.Core.Path.{_≡_, refl, sym, ap, ap₂, _∙_, subst}
+use mathlib.Core.Bool.{Bool, true, false, _&&_, not, cond}
 use mathlib.Core.List.{List, [], _∷_, _++_, append-nil}
 use mathlib.Core.Logic.{_⊎_, inl, inr}
-use Prim.Native.Nat.{ℕ, zero, suc, _-_, _*_, _≤_}
+use Prim.Native.Nat.{ℕ, _+_, _-_, _≤_}
+use native.Mathlib.Decide.{decLe}
 use native.Mathlib.Omega.{arith}
+use lib.Bits.{and-le-l}
 use lib.Dec.{eqb}
-use lib.ListN.{length, take, replicate, length-take}
-use lib.Seq.{take-all, take-length}
-use borrow.Author.Tests.{eqb-true, not-false}
+use lib.ListN.{length, take, replicate, length-append, length-replicate}
+use lib.Seq.{take-at, take-length, getD-at}
+use borrow.Author.Tests.{eqb-true, eq-eqb, not-false}
 use Rattle.crc.specs.Crc.{crc32}
-use Rattle.flash.specs.Flash.{Unit4, units, run, program, allOnes}
-use Rattle.flash.proofs.Laws.{Bytes, bytes-append, bytes-ones, bytes-take, length-units-whole, program-erased, run-take-units}
-use Rattle.page.specs.Record.{Page, fitToUse, uninitialized}
-use Rattle.page.specs.Writing.{answered, imageAfter}
-use Rattle.sector.proofs.Laws.{accepted-head}
+use Rattle.flash.specs.Flash.{Unit4, units, run, allOnes, OnlyClears, clears-nil, clears-cons, Between, CutAt}
+use Rattle.flash.proofs.Laws.{Bytes, bytes-append, bytes-ones, bytes-clears, length-clears, run-units-erased, run-append}
+use Rattle.flash.proofs.Cuts.{between-ends, AfterFront, after-front, before-back, whole-units-cut, cut-between, CutInto, of-first, of-second, cut-append}
+use Rattle.page.specs.Record.{Page, uninitialized}
+use Rattle.page.specs.Writing.{answered}
 use Rattle.page.proofs.Checks.{accepted-usable}
 use Rattle.sector.specs.declared.Answer.the-variants.{Done, CorruptedData}
 use Rattle.sector.specs.Answers.{accepted}
-use Rattle.sector.specs.Header.{stateOfWord, headerCrc, headerBody, headerBytes, isUninitialized}
+use Rattle.sector.specs.Header.{stateOfWord, headerCrc, headerBody, headerBytes, isUninitialized, isInUse}
 use Rattle.sector.specs.Item.{crcStart}
-use Rattle.sector.specs.Layout.{littleEndian}
-use Rattle.sector.specs.Map.{countIn}
+use Rattle.sector.specs.Layout.{number, littleEndian, stateWord, versionOf, storedHeaderCrc}
+use Rattle.sector.proofs.Laws.{accepted-head, littleEndian-number}
 use Rattle.call_page_state.specs.Calls.{initialiseChecks, initialisePlan, initialiseImage}
-use Rattle.opening.specs.Opening.{headerVerdictOf, opening}
+use Rattle.opening.specs.Opening.{headerVerdictOf, answerFor, opening}
+use Rattle.opening.specs.declared.HeaderVerdict.the-variants.{Blank, Opens, WrongPageState, WrongVersion, WrongHeaderCrc}
 use Rattle.theorem_power_cut.specs.PowerCut.{InitialiseCut}
 use Rattle.theorem_power_cut.proofs.Laid.{bytes-littleEndian}
 use Rattle.theorem_power_cut.proofs.Held.{blank-image}
@@ -35,121 +40,191 @@ use Rattle.theorem_power_cut.proofs.Demand.{blank-opening}
 abbrev blank : List ℕ
 blank = replicate 4096 0xFF
 
-accepts : accepted (initialiseChecks blank uninitialized) ≡ true
-unfolding fitToUse allOnes countIn
-accepts = refl
+-- ---- the header in three parts
 
-pub header-long : (sequence : ℕ) → length (headerBytes sequence) ≡ 32
-unfolding headerBytes
-header-long sequence = refl
+-- a write onto erased bytes, after a front
+write-erased : {front bytes : List ℕ} (n : ℕ) → Bytes front → Bytes bytes → length bytes ≤ n
+    → run (units (length front) bytes) (front ++ replicate n 0xFF) ≡ front ++ (bytes ++ replicate (n - length bytes) 0xFF)
+write-erased {front} {bytes} n bf b h =
+    ap (λ (ones : List ℕ). run (units (length front) bytes) (front ++ ones)) (sym (append-nil (replicate n 0xFF)))
+    ∙ run-units-erased n front [] (bytes-append bf (bytes-append (bytes-ones n) (bytes-ones 0))) b h
+    ∙ ap (λ (ones : List ℕ). front ++ (bytes ++ ones)) (append-nil (replicate (n - length bytes) 0xFF))
 
-pub header-bytes : (sequence : ℕ) → Bytes (headerBytes sequence)
-unfolding headerBytes
-header-bytes sequence =
-    bytes-append (bytes-littleEndian 4 0xFFFFFFFE)
-    (bytes-append (bytes-append (bytes-littleEndian 4 sequence) (bytes-append (bytes-littleEndian 1 0xFE) (bytes-ones 19))) (bytes-littleEndian 4 (crc32 crcStart (headerBody sequence))))
-
--- the bytes of the first n units, and 0xFF after them
-program-blank : {bytes : List ℕ} → Bytes bytes → length bytes ≤ 4096 → program blank 0 bytes ≡ bytes ++ replicate (4096 - length bytes) 0xFF
-program-blank {bytes} b h =
-    ap (λ (image : List ℕ). program image 0 bytes) (sym (append-nil blank))
-    ∙ program-erased 4096 [] [] b h
-    ∙ ap (λ (rest : List ℕ). bytes ++ rest) (append-nil (replicate (4096 - length bytes) 0xFF))
-
-pub stopped : (sequence n : ℕ) → initialiseImage blank uninitialized sequence n
-    ≡ take (4 * n) (headerBytes sequence) ++ replicate (4096 - length (take (4 * n) (headerBytes sequence))) 0xFF
-unfolding initialiseImage initialisePlan
-stopped sequence n =
-    let header = headerBytes sequence in
-    ap (λ (ok : Bool). cond ok (run (take n (units 0 header)) blank) blank) accepts
-    ∙ run-take-units n 0 header (bytes-ones 4096)
-    ∙ program-blank (bytes-take (4 * n) (header-bytes sequence)) (omega (arith, length-take (4 * n) header, header-long sequence))
-
-abbrev Cut : ℕ → ℕ → Type 0
-Cut sequence n =
-    (opening (initialiseImage blank uninitialized sequence n) ≡ answered Done uninitialized)
-    ⊎ ((opening (initialiseImage blank uninitialized sequence n) ≡ answered CorruptedData uninitialized)
-    ⊎ (initialiseImage blank uninitialized sequence n ≡ initialiseImage blank uninitialized sequence (length (initialisePlan sequence))))
-
-pub plan-long : (sequence : ℕ) → length (initialisePlan sequence) ≡ 8
-unfolding initialisePlan
-plan-long sequence = length-units-whole 0 8 (headerBytes sequence) (header-long sequence)
-
--- a state, and no version
-cut-1 : (sequence : ℕ) → opening (initialiseImage blank uninitialized sequence 1) ≡ answered CorruptedData uninitialized
-unfolding opening headerVerdictOf stateOfWord headerBytes
-cut-1 sequence = ap opening (stopped sequence 1)
-
-cut-2 : (sequence : ℕ) → opening (initialiseImage blank uninitialized sequence 2) ≡ answered CorruptedData uninitialized
-unfolding opening headerVerdictOf stateOfWord headerBytes
-cut-2 sequence = ap opening (stopped sequence 2)
-
--- a state and a version, and the CRC reads 0xFFFFFFFF
 module _ (sequence : ℕ) where
   abbrev crc : ℕ
   crc = crc32 crcStart (headerBody sequence)
 
-  -- the header, with any CRC
-  abbrev headerWith : ℕ → List ℕ
-  headerWith c = littleEndian 4 0xFFFFFFFE ++ (headerBody sequence ++ littleEndian 4 c)
+  -- state word and sequence
+  abbrev early : List ℕ
+  early = littleEndian 4 0xFFFFFFFE ++ littleEndian 4 sequence
 
-  wrong-crc : eqb crc 0xFFFFFFFF ≡ false → opening (initialiseImage blank uninitialized sequence 3) ≡ answered CorruptedData uninitialized
-  unfolding opening headerVerdictOf stateOfWord headerBytes headerCrc
-  wrong-crc e = ap opening (stopped sequence 3) ∙ rw e
+  -- the version, and 0xFF up to the CRC
+  abbrev version : List ℕ
+  version = 0xFE ∷ replicate 19 0xFF
 
-  finished : eqb crc 0xFFFFFFFF ≡ true → initialiseImage blank uninitialized sequence 3 ≡ initialiseImage blank uninitialized sequence 8
+  abbrev sum : List ℕ
+  sum = littleEndian 4 crc
+
+  early-bytes : Bytes early
+  early-bytes = bytes-append (bytes-littleEndian 4 0xFFFFFFFE) (bytes-littleEndian 4 sequence)
+
+  version-bytes : Bytes version
+  version-bytes = bytes-append (bytes-littleEndian 1 0xFE) (bytes-ones 19)
+
+  header-parts : headerBytes sequence ≡ early ++ (version ++ sum)
   unfolding headerBytes
-  finished e = stopped sequence 3 ∙ ap (λ (c : ℕ). headerWith c ++ replicate 4064 0xFF) (sym (eqb-true crc 0xFFFFFFFF e)) ∙ sym (stopped sequence 8)
+  header-parts = refl
 
-  cut-3 : Cut sequence 3
-  cut-3 = by-crc (eqb crc 0xFFFFFFFF) refl
+  pub header-long : length (headerBytes sequence) ≡ 32
+  unfolding headerBytes
+  header-long = refl
+
+  pub header-bytes : Bytes (headerBytes sequence)
+  header-bytes = rw header-parts (bytes-append early-bytes (bytes-append version-bytes (bytes-littleEndian 4 crc)))
+
+  -- ---- the images between the phases
+
+  abbrev one : List Unit4
+  one = units 0 early
+
+  abbrev two : List Unit4
+  two = units 8 version
+
+  abbrev three : List Unit4
+  three = units 28 sum
+
+  plan-parts : initialisePlan sequence ≡ one ++ (two ++ three)
+  unfolding initialisePlan headerBytes units
+  plan-parts = refl
+
+  abbrev finished : List ℕ
+  finished = early ++ (version ++ (sum ++ replicate 4064 0xFF))
+
+  run-one : run one blank ≡ early ++ replicate 4088 0xFF
+  run-one = write-erased {front = []} 4096 (bytes-ones 0) early-bytes (omega arith)
+
+  run-two : run two (run one blank) ≡ early ++ (version ++ replicate 4068 0xFF)
+  run-two = ap (run two) run-one ∙ write-erased 4088 early-bytes version-bytes (omega arith)
+
+  run-three : run three (run two (run one blank)) ≡ finished
+  run-three = ap (run three) run-two ∙ write-erased {front = early ++ version} 4068 (bytes-append early-bytes version-bytes) (bytes-littleEndian 4 crc) (omega arith)
+
+  run-plan : run (initialisePlan sequence) blank ≡ finished
+  run-plan =
+      ap (λ (plan : List Unit4). run plan blank) plan-parts ∙ run-append one (two ++ three) blank ∙ run-append two three (run one blank) ∙ run-three
+
+  -- ---- what opening makes of a cut
+
+  abbrev Cut : List ℕ → Type 0
+  Cut cut = (opening cut ≡ answered Done uninitialized) ⊎ ((opening cut ≡ answered CorruptedData uninitialized) ⊎ (cut ≡ finished))
+
+  -- a version of 0xFF: erased or CorruptedData
+  no-version : (cut : List ℕ) → length cut ≡ 4096 → versionOf cut ≡ 0xFF → Cut cut
+  unfolding opening headerVerdictOf
+  no-version cut size v = by-ones (allOnes cut) refl
     where
-      by-crc : (ones : Bool) → eqb crc 0xFFFFFFFF ≡ ones → Cut sequence 3
-      by-crc false e = inr (inl (wrong-crc e))
-      by-crc true e = inr (inr (finished e ∙ ap (initialiseImage blank uninitialized sequence) (sym (plan-long sequence))))
+      refused : (none used : Bool)
+          → answerFor (cond (none && false) Blank (cond (not used) WrongPageState (cond true WrongVersion (cond (not (eqb (headerCrc cut) (storedHeaderCrc cut))) WrongHeaderCrc Opens)))) cut
+          ≡ answered CorruptedData uninitialized
+      refused true true = refl
+      refused true false = refl
+      refused false true = refl
+      refused false false = refl
 
-  -- all units
-  pub whole : (n : ℕ) → length (initialisePlan sequence) ≤ n
-      → initialiseImage blank uninitialized sequence n ≡ initialiseImage blank uninitialized sequence (length (initialisePlan sequence))
-  unfolding initialiseImage
-  whole n h =
-      let plan = initialisePlan sequence in
-      ap (λ (units : List Unit4). imageAfter (initialiseChecks blank uninitialized) units blank) (take-all n plan h ∙ sym (take-length plan))
+      by-ones : (ones : Bool) → allOnes cut ≡ ones → Cut cut
+      by-ones true e = inl (ap opening (blank-image cut size e) ∙ blank-opening)
+      by-ones false e =
+          let state = stateOfWord (stateWord cut) in
+          inr (inl (rw (eq-eqb (length cut) 4096 size, e, v) (refused (isUninitialized state) (isInUse state))))
 
--- what holds of a page holds of the same page
-move : (sequence n m : ℕ) → initialiseImage blank uninitialized sequence n ≡ initialiseImage blank uninitialized sequence m → Cut sequence m → Cut sequence n
-move sequence n m e (inl c) = inl (ap opening e ∙ c)
-move sequence n m e (inr (inl c)) = inr (inl (ap opening e ∙ c))
-move sequence n m e (inr (inr c)) = inr (inr (e ∙ c))
+  -- a state and a version, and any CRC: CorruptedData or finished
+  any-sum : (bytes : List ℕ) → length bytes ≡ 4 → Bytes bytes → Cut (early ++ (version ++ (bytes ++ replicate 4064 0xFF)))
+  unfolding opening headerVerdictOf stateOfWord headerCrc
+  any-sum bytes size b = by-crc (eqb crc (number bytes)) refl
+    where
+      long : length (bytes ++ replicate 4064 0xFF) ≡ 4068
+      long = length-append bytes (replicate 4064 0xFF) ∙ ap₂ (λ (m n : ℕ). m + n) size (length-replicate {A = ℕ} 4064 0xFF)
 
--- the units between the version and the CRC are 0xFF
-blank-cut : (sequence n : ℕ) → Cut sequence n
-unfolding headerBytes
-blank-cut sequence zero = inl (ap opening (stopped sequence 0) ∙ blank-opening)
-blank-cut sequence (suc zero) = inr (inl (cut-1 sequence))
-blank-cut sequence (suc (suc zero)) = inr (inl (cut-2 sequence))
-blank-cut sequence (suc (suc (suc zero))) = cut-3 sequence
-blank-cut sequence (suc (suc (suc (suc zero)))) = move sequence 4 3 (stopped sequence 4 ∙ sym (stopped sequence 3)) (cut-3 sequence)
-blank-cut sequence (suc (suc (suc (suc (suc zero))))) = move sequence 5 3 (stopped sequence 5 ∙ sym (stopped sequence 3)) (cut-3 sequence)
-blank-cut sequence (suc (suc (suc (suc (suc (suc zero)))))) = move sequence 6 3 (stopped sequence 6 ∙ sym (stopped sequence 3)) (cut-3 sequence)
-blank-cut sequence (suc (suc (suc (suc (suc (suc (suc zero))))))) = move sequence 7 3 (stopped sequence 7 ∙ sym (stopped sequence 3)) (cut-3 sequence)
-blank-cut sequence (suc (suc (suc (suc (suc (suc (suc (suc n)))))))) =
-    inr (inr (whole sequence (suc (suc (suc (suc (suc (suc (suc (suc n)))))))) (omega (arith, plan-long sequence))))
+      stored : number (take 4 (bytes ++ replicate 4064 0xFF)) ≡ number bytes
+      stored = ap number (take-at bytes (replicate 4064 0xFF) 4 size)
+
+      by-crc : (right : Bool) → eqb crc (number bytes) ≡ right → Cut (early ++ (version ++ (bytes ++ replicate 4064 0xFF)))
+      by-crc true e =
+          inr (inr (ap (λ (last : List ℕ). early ++ (version ++ (last ++ replicate 4064 0xFF)))
+          (sym (littleEndian-number b) ∙ ap₂ littleEndian size (sym (eqb-true crc (number bytes) e)))))
+      by-crc false e = inr (inl (rw (long, stored, e)))
+
+  -- ---- the phases
+
+  length-cut : {old cut new : List ℕ} → length old ≡ 4096 → Between old cut new → length cut ≡ 4096
+  length-cut size b = length-clears (b .begun) ∙ size
+
+  -- in the state word or the sequence: the version is still 0xFF
+  in-early : {cut : List ℕ} → Between blank cut (early ++ replicate 4088 0xFF) → Cut cut
+  in-early {cut} b =
+      let same = before-back (replicate 8 0xFF) early {back = replicate 4088 0xFF} refl b in
+      let size : length (same .first) ≡ 8 = length-clears (same .between .begun) in
+      no-version cut (length-cut (length-replicate {A = ℕ} 4096 0xFF) b)
+      (ap versionOf (same .split) ∙ getD-at (same .first) 0xFF (replicate 4087 0xFF) 0 8 size)
+
+  -- in the version: it is 0xFF, or its one bit is cleared
+  in-version : {cut : List ℕ} → Between (early ++ replicate 4088 0xFF) cut (early ++ (version ++ replicate 4068 0xFF)) → Cut cut
+  in-version {cut} b = by-front (after-front early b)
+    where
+      by-byte : {first : List ℕ} → cut ≡ early ++ (first ++ replicate 4087 0xFF) → OnlyClears (0xFF ∷ []) first → OnlyClears first (0xFE ∷ []) → Cut cut
+      by-byte e (clears-cons {x = byte} x clears-nil) (clears-cons y clears-nil) = by-size (omega (arith, and-le-l 0xFF byte)) (omega (arith, and-le-l byte 0xFE)) (decLe byte 0xFE)
+        where
+          by-size : byte ≤ 0xFF → 0xFE ≤ byte → Dec (byte ≤ 0xFE) → Cut cut
+          by-size upper lower (yes h) =
+              let is : byte ≡ 0xFE = omega arith in
+              subst Cut (sym (e ∙ ap (λ (v : ℕ). early ++ (v ∷ replicate 4087 0xFF)) is)) (any-sum (replicate 4 0xFF) refl (bytes-ones 4))
+          by-size upper lower (no h) =
+              let is : byte ≡ 0xFF = omega arith in
+              no-version cut (length-cut refl b) (ap versionOf e ∙ is)
+
+      by-front : AfterFront early (replicate 4088 0xFF) (version ++ replicate 4068 0xFF) cut → Cut cut
+      by-front after =
+          let same = before-back (0xFF ∷ []) (0xFE ∷ []) {back = replicate 4087 0xFF} refl (after .between) in
+          by-byte (after .split ∙ ap (λ (rest : List ℕ). early ++ rest) (same .split)) (same .between .begun) (same .between .left)
+
+  -- in the CRC
+  in-sum : {cut : List ℕ} → Between (early ++ (version ++ replicate 4068 0xFF)) cut finished → Cut cut
+  in-sum {cut} b =
+      let after = after-front (early ++ version) b in
+      let same = before-back (replicate 4 0xFF) sum {back = replicate 4064 0xFF} refl (after .between) in
+      subst Cut (sym (after .split ∙ ap (λ (rest : List ℕ). early ++ (version ++ rest)) (same .split)))
+      (any-sum (same .first) (length-clears (same .between .begun)) (bytes-clears (bytes-ones 4) (same .between .begun)))
+
+  cut-anywhere : (n : ℕ) {cut : List ℕ} → CutAt (initialisePlan sequence) blank n cut → Cut cut
+  cut-anywhere n {cut} c = by-phase (cut-append one (two ++ three) blank n (subst (λ (plan : List Unit4). CutAt plan blank n cut) plan-parts c))
+    where
+      by-later : {m : ℕ} → CutInto two three (run one blank) m cut → Cut cut
+      by-later {m} (of-first l c) = in-version (between-ends run-one run-two (cut-between two (run one blank) m c))
+      by-later {m} (of-second l c) = in-sum (between-ends run-two run-three (cut-between three (run two (run one blank)) (m - length two) c))
+
+      by-phase : CutInto one (two ++ three) blank n cut → Cut cut
+      by-phase (of-first l c) = in-early (between-ends refl run-one (cut-between one blank n c))
+      by-phase (of-second l c) = by-later (cut-append two three (run one blank) (n - length one) c)
 
 -- ---- any call that is not refused
 
 -- it finds the page erased
-pub erased-image : (image : List ℕ) (page : Page) → accepted (initialiseChecks image page) ≡ true → image ≡ blank
+erased-image : (image : List ℕ) (page : Page) → accepted (initialiseChecks image page) ≡ true → image ≡ blank
 erased-image image page ok =
     let usable = accepted-usable image page (not (isUninitialized (page .state))) ((not (allOnes image), CorruptedData) ∷ []) ok in
     blank-image image (usable .whole) (not-false _ (accepted-head (not (allOnes image)) CorruptedData [] (usable .rest)))
 
--- and leaves what it leaves of the Uninitialized record
-pub same-image : (image : List ℕ) (page : Page) (sequence n : ℕ) → accepted (initialiseChecks image page) ≡ true
-    → initialiseImage image page sequence n ≡ initialiseImage blank uninitialized sequence n
+-- and programs the units of the plan
+pub image-after : (image : List ℕ) (page : Page) (sequence n : ℕ) → accepted (initialiseChecks image page) ≡ true
+    → initialiseImage image page sequence n ≡ run (take n (initialisePlan sequence)) blank
 unfolding initialiseImage
-same-image image page sequence n ok =
-    rw (ok, accepts) (ap (run (take n (initialisePlan sequence))) (erased-image image page ok))
+image-after image page sequence n ok = rw ok (ap (run (take n (initialisePlan sequence))) (erased-image image page ok))
+
+-- all of them leave the finished page
+pub run-header : (sequence : ℕ) → run (initialisePlan sequence) blank ≡ headerBytes sequence ++ replicate 4064 0xFF
+run-header sequence = run-plan sequence ∙ ap (λ (header : List ℕ). header ++ replicate 4064 0xFF) (sym (header-parts sequence))
 
 pub initialise-cut : InitialiseCut
-initialise-cut image page sequence n h ok = rw (same-image image page sequence n ok, same-image image page sequence (length (initialisePlan sequence)) ok) (blank-cut sequence n)
+initialise-cut image page sequence n h ok =
+    rw (image-after image page sequence n ok, image-after image page sequence (length (initialisePlan sequence)) ok, take-length (initialisePlan sequence), run-plan sequence)
+    (cut-anywhere sequence n (whole-units-cut (initialisePlan sequence) blank n))

@@ -1,33 +1,33 @@
--- What opening's map units do to an image: a map turns into another, unit by unit.
+-- What one pass of opening does to an image: a map turns into another, unit by unit.
 --
--- In order: a map that is new up to a byte and old after it; one unit; the units in which two maps differ, all of them and the first n.
+-- In order: a map that is new up to a byte and old after it; one unit; the units in which two maps differ.
 use mathlib.Core.Path.{_≡_, refl, sym, ap, ap₂, _∙_}
 use mathlib.Core.Bool.{Bool, true, false, cond, and-eq-true-iff}
 use mathlib.Core.List.{List, [], _∷_, _++_, append-assoc}
-use Prim.Native.Nat.{ℕ, zero, suc, _+_, _-_, _*_, _≤_, _<_}
+use Prim.Native.Nat.{ℕ, zero, suc, _+_, _*_, _≤_, _<_}
 use native.Mathlib.Nat.{add-zero, add-suc, suc-add}
 use native.Mathlib.Omega.{arith}
 use lib.Bits.{and-self}
 use lib.Dec.{eqb}
 use lib.ListN.{length, take, drop, length-drop, take-append-drop}
-use lib.Seq.{take-at, drop-at, take-add, drop-drop, length-take-le, take-nil, take-all}
+use lib.Seq.{take-at, drop-at, take-add, drop-drop, length-take-le}
 use borrow.Author.Tests.{eqb-true}
-use Rattle.flash.specs.Flash.{Unit4, units, run, program}
-use Rattle.flash.proofs.Laws.{Bytes, bytes-program, OnlyClears, clears-nil, clears-cons, length-clears, length-units-whole, program-past, program-inside, program-splice, run-units, run-append, run-budget}
+use Rattle.flash.specs.Flash.{Unit4, units, run, program, OnlyClears, clears-nil, clears-cons}
+use Rattle.flash.proofs.Laws.{Bytes, bytes-program, length-clears, program-past, program-inside, program-splice, run-units, run-append}
 use Rattle.sector.specs.Layout.{mapOffset, sameBytes}
 use Rattle.opening_marks.specs.Marks.{mapUnit, changedUnits}
 
 -- ---- new up to a byte, old after it
 
-abbrev pub splice : ℕ → List ℕ → List ℕ → List ℕ
+abbrev splice : ℕ → List ℕ → List ℕ → List ℕ
 splice m new old = take m new ++ drop m old
 
-pub clears-splice : {old new : List ℕ} (m : ℕ) → OnlyClears old new → OnlyClears (splice m new old) new
+clears-splice : {old new : List ℕ} (m : ℕ) → OnlyClears old new → OnlyClears (splice m new old) new
 clears-splice zero o = o
 clears-splice (suc m) clears-nil = clears-nil
 clears-splice (suc m) (clears-cons {x = x} e o) = clears-cons (and-self x) (clears-splice m o)
 
-pub length-splice : {old new : List ℕ} (m : ℕ) → OnlyClears old new → length (splice m new old) ≡ length old
+length-splice : {old new : List ℕ} (m : ℕ) → OnlyClears old new → length (splice m new old) ≡ length old
 length-splice m o = sym (length-clears (clears-splice m o)) ∙ length-clears o
 
 splice-all : {old new : List ℕ} (m : ℕ) → OnlyClears old new → length new ≤ m → splice m new old ≡ new
@@ -52,7 +52,7 @@ next-unit j = omega arith
 module _ (header old new entries : List ℕ) (header-size : length header ≡ 32) (map-size : length old ≡ 32) (clears : OnlyClears old new)
     (bytes : Bytes (header ++ (old ++ entries))) where
   -- the image whose map is new up to unit j
-  abbrev pub imageAt : ℕ → List ℕ
+  abbrev imageAt : ℕ → List ℕ
   imageAt j = header ++ (splice (4 * j) new old ++ entries)
 
   new-size : length new ≡ 32
@@ -118,33 +118,3 @@ module _ (header old new entries : List ℕ) (header-size : length header ≡ 32
 
   pub run-pass : run (changedUnits 0 8 old new) (header ++ (old ++ entries)) ≡ header ++ (new ++ entries)
   run-pass = run-changed 0 8 (omega arith) ∙ ap (λ (map : List ℕ). header ++ (map ++ entries)) (splice-all 32 clears (omega (arith, new-size)))
-
-  -- the first n of them: the map is new up to some unit, and old after it
-  pub record Reached (j m n : ℕ) : Type 0 where
-    pub unit-at : ℕ
-    pub image : run (take n (changedUnits j m old new)) (imageAt j) ≡ imageAt unit-at
-
-  further : (j m n : ℕ) → Reached (suc j) m n → (k : ℕ) → run (take k (changedUnits j (suc m) old new)) (imageAt j) ≡ run (take n (changedUnits (suc j) m old new)) (imageAt (suc j))
-      → Reached j (suc m) k
-  further j m n r k e = record { unit-at = r .unit-at; image = e ∙ r .image }
-
-  pub reached : (j m n : ℕ) → j + m ≤ 8 → Reached j m n
-  unfolding changedUnits run
-  reached j zero n h = record { unit-at = j; image = rw (take-nil {A = Unit4} n) }
-  reached j (suc m) n h = by-test (λ k. reached (suc j) m k (omega arith)) n (sameBytes (mapUnit j old) (mapUnit j new)) refl
-    where
-      rest : List Unit4
-      rest = changedUnits (suc j) m old new
-
-      by-test : ((k : ℕ) → Reached (suc j) m k) → (n : ℕ) (same : Bool) → sameBytes (mapUnit j old) (mapUnit j new) ≡ same → Reached j (suc m) n
-      by-test next n true e = further j m n (next n) n (rw e (ap (run (take n rest)) (run-unit j (omega arith) true e)))
-      by-test next zero false e = record { unit-at = j; image = refl }
-      by-test next (suc n) false e =
-          let us = units (mapOffset + 4 * j) (mapUnit j new) in
-          let one = length-units-whole (mapOffset + 4 * j) 1 (mapUnit j new) (unit-size j (omega arith)) in
-          let left : suc n - length us ≡ n = omega arith in
-          further j m n (next n) (suc n)
-          (rw e
-          (run-budget (suc n) us rest (imageAt j)
-          ∙ ap₂ (λ (k : ℕ) (image : List ℕ). run (take k rest) image) left
-          (ap (λ (plan : List Unit4). run plan (imageAt j)) (take-all (suc n) us (omega arith)) ∙ run-unit j (omega arith) false e)))

@@ -8,8 +8,8 @@ use Prim.Native.Nat.{ℕ, zero, suc, _+_, _*_}
 use native.Mathlib.Omega.{arith}
 use lib.ListN.{length, take, drop, replicate, replicate-append-replicate, length-append, length-drop, length-replicate, take-append-drop}
 use lib.Seq.{take-at, drop-at, length-take-le}
-use Rattle.flash.specs.Flash.{Unit4, run, every, allOnes}
-use Rattle.flash.proofs.Laws.{Bytes, bytes-take, bytes-drop, bytes-run, OnlyClears, length-clears, replicate-all-ones, run-append}
+use Rattle.flash.specs.Flash.{Unit4, run, every, allOnes, OnlyClears}
+use Rattle.flash.proofs.Laws.{Bytes, bytes-take, bytes-drop, bytes-run, length-clears, replicate-all-ones, run-append}
 use Rattle.sector.specs.declared.EntryMapState.the-variants.{Empty}
 use Rattle.sector.specs.Layout.{chunks, entriesOf, mapOf}
 use Rattle.sector.specs.Map.{unpack, pack, statesOf}
@@ -21,7 +21,8 @@ use Rattle.opening.specs.Opening.{keptItems, openedMap, firstMap, openingPlan}
 use Rattle.opening_reading.proofs.Verdicts.{States, Entries}
 use Rattle.theorem_reopening.proofs.Closed.{length-closed}
 use Rattle.theorem_reopening.proofs.Reopened.{length-openedStates, kept-openedStates}
-use Rattle.theorem_reopening.proofs.TwoPasses.{clears-firstStates, clears-secondPass}
+use Rattle.theorem_reopening.proofs.Mixed.{steps-clear}
+use Rattle.theorem_reopening.proofs.TwoPasses.{steps-firstPass, steps-secondPass}
 use Rattle.theorem_reopening.proofs.OpenedFront.{Opened, opened}
 use Rattle.theorem_reopening.proofs.Cuts.{kept-unmarked}
 use Rattle.theorem_power_cut.proofs.Chunks.{chunks-append}
@@ -76,13 +77,13 @@ module _ (image : List ℕ) (size : length image ≡ 4096) (bytes : Bytes image)
   unfolding firstMap
   map-first =
       subst (λ (before : List ℕ). OnlyClears before (firstMap image)) (sym old-map)
-      (clears-pack (states-append (clears-firstStates states entries same-size) (states-refl (drop 126 (unpack (mapOf image))))))
+      (clears-pack (states-append (steps-clear (steps-firstPass states entries same-size)) (states-refl (drop 126 (unpack (mapOf image))))))
 
   pub map-second : OnlyClears (firstMap image) (openedMap image)
   unfolding firstMap openedMap
   map-second =
       clears-pack
-      (states-append (clears-secondPass states entries same-size) (states-refl (drop 126 (unpack (mapOf image)))))
+      (states-append (steps-clear (steps-secondPass states entries same-size)) (states-refl (drop 126 (unpack (mapOf image)))))
 
   pub first-size : length (firstMap image) ≡ 32
   first-size = length-clears map-first ∙ map-size image size
@@ -103,13 +104,13 @@ module _ (image : List ℕ) (size : length image ≡ 4096) (bytes : Bytes image)
   abbrev pub second : List Unit4
   second = changedUnits 0 8 (firstMap image) (openedMap image)
 
+  pub run-second : run second (run first image) ≡ header ++ (openedMap image ++ rest)
+  run-second = ap (run second) run-first ∙ run-pass header (firstMap image) (openedMap image) rest header-size first-size map-second between
+
   -- the entries and the header stay, and the map is the reading's
   pub run-opening : run (openingPlan image) image ≡ header ++ (openedMap image ++ rest)
   unfolding openingPlan
-  run-opening =
-      run-append first second image
-      ∙ ap (run second) run-first
-      ∙ run-pass header (firstMap image) (openedMap image) rest header-size first-size map-second between
+  run-opening = run-append first second image ∙ run-second
 
   -- ---- the page that stands there
 

@@ -1,61 +1,36 @@
--- Opening cut after any of its map units, and opened again, gives what one whole opening gives.
+-- Opening cut in either of its passes, inside a unit too, and opened again, gives what one whole opening gives.
 --
--- In order: a mix of states that agree after an entry; a page with another map that reads the same; the states of the three maps; the cut.
+-- In order: a page with another map that reads the same; the states of the three maps; the cut, pass by pass; a cut after whole units.
 use mathlib.Core.Path.{_≡_, refl, sym, ap, ap₂, _∙_, subst}
-use mathlib.Core.List.{List, [], _∷_, _++_}
-use Prim.Native.Nat.{ℕ, zero, suc, _+_, _-_, _*_, _≤_}
-use native.Mathlib.Decide.{decLe}
-use native.Mathlib.Nat.{suc-inj}
+use mathlib.Core.List.{List, [], _++_}
+use Prim.Native.Nat.{ℕ, zero, _+_, _-_, _≤_}
 use native.Mathlib.Omega.{arith}
 use lib.ListN.{length, take, drop, length-append, length-drop, take-append-drop}
-use lib.Seq.{take-at, take-nil, take-all, take-append-le}
+use lib.Seq.{take-at, drop-at, take-nil}
 use borrow.Author.Tests.{eq-eqb}
-use Rattle.flash.specs.Flash.{Unit4, run}
-use Rattle.flash.proofs.Laws.{Bytes, OnlyClears, bytes-run, run-budget}
+use Rattle.flash.specs.Flash.{Unit4, run, Between, CutAt}
+use Rattle.flash.proofs.Laws.{Bytes, bytes-take, bytes-drop, bytes-clears, length-clears}
+use Rattle.flash.proofs.Cuts.{between-ends, after-front, before-back, whole-units-cut, cut-between, CutInto, of-first, of-second, cut-append}
 use Rattle.page.specs.Writing.{answered}
 use Rattle.sector.specs.declared.Answer.the-variants.{Done}
 use Rattle.sector.specs.Layout.{field, versionOf, mapOf, entriesOf, chunks}
 use Rattle.sector.specs.Map.{statesOf, unpack, pack}
-use Rattle.sector.specs.declared.EntryMapState.{EntryMapState}
 use Rattle.sector.proofs.Laws.{length-unpack}
-use Rattle.sector.proofs.Marks.{StatesClear, states-nil, states-cons, image-parts, mapOf-parts, entries-parts, unpack-pack, unpack-splice}
+use Rattle.sector.proofs.Marks.{image-parts, mapOf-parts, entries-parts, unpack-pack}
 use Rattle.opening_reading.specs.Reading.{keptFrom, openedStates}
-use Rattle.opening_marks.specs.Marks.{changedUnits}
 use Rattle.opening.specs.Opening.{headerVerdictOf, keptItems, openedMap, firstMap, openingPlan, openedPage, opening, openingImage, openingStoppedImage, planFor}
 use Rattle.opening.specs.declared.HeaderVerdict.{HeaderVerdict}
 use Rattle.opening.specs.declared.HeaderVerdict.the-variants.{Blank, Opens, WrongPageState, WrongVersion, WrongHeaderCrc}
 use Rattle.theorem_reopening.proofs.Reopened.{length-openedStates}
 use Rattle.opening_reading.proofs.Verdicts.{States, Entries}
-use Rattle.theorem_reopening.proofs.TwoPasses.{the-old, the-new, Mix, mix-nil, mix-cons, mix-take, firstStates, clears-firstStates, CutOpening, in-first, in-second, openedStates-cut, keptFrom-cut}
+use Rattle.theorem_reopening.proofs.Mixed.{Mix, length-mix, mix-same, mix-append, Steps, length-steps, steps-same, steps-append, between-mix}
+use Rattle.theorem_reopening.proofs.TwoPasses.{firstStates, steps-firstPass, steps-secondPass, CutOpening, in-first, in-second, openedStates-cut, keptFrom-cut}
 use Rattle.theorem_writing.proofs.FitRecords.{bytes-of}
 use Rattle.theorem_power_cut.specs.PowerCut.{OpeningCut}
 use Rattle.theorem_power_cut.proofs.Found.{map-size}
-use Rattle.theorem_power_cut.proofs.MapUnits.{splice, length-splice, reached}
-use Rattle.theorem_power_cut.proofs.OpenedPage.{header-size, states-size, same-size, map-first, map-second, first-size, before, first, run-first, between, second, run-opening}
+use Rattle.theorem_power_cut.proofs.OpenedPage.{header-size, states-size, same-size, first-size, opened-size, before, first, run-first, between, second, run-second, run-opening}
 use Rattle.theorem_power_cut.proofs.AtHand.{field-front, version-front}
 use Rattle.theorem_power_cut.proofs.Headers.{HeaderOpens, opens-facts, opens-of, header-opens, image-opens}
-
--- ---- a mix of states that agree after an entry
-
-length-states-clear : {old new : States} → StatesClear old new → length new ≡ length old
-length-states-clear states-nil = refl
-length-states-clear (states-cons e c) = ap suc (length-states-clear c)
-
-mix-same : {old new mid : States} → Mix old new mid → old ≡ new → mid ≡ old
-mix-same mix-nil e = refl
-mix-same (mix-cons {s} {t} {m} {old} {new} {mid} the-old rest) e =
-    let same : old ≡ new = cc in ap (λ (states : States). s ∷ states) (mix-same rest same)
-mix-same (mix-cons {s} {t} {m} {old} {new} {mid} the-new rest) e =
-    let first : t ≡ s = cc in
-    let same : old ≡ new = cc in
-    ap₂ (λ (x : EntryMapState) (states : States). x ∷ states) first (mix-same rest same)
-
-mix-parts : (old new behind : States) → length old ≡ length new → {mid : States} → Mix (old ++ behind) (new ++ behind) mid
-    → Mix old new (take (length old) mid) × (drop (length old) mid ≡ behind)
-mix-parts [] [] behind l m = (mix-nil, mix-same m refl)
-mix-parts [] (t ∷ new) behind l m = absurd (omega arith)
-mix-parts (s ∷ old) [] behind l m = absurd (omega arith)
-mix-parts (s ∷ old) (t ∷ new) behind l (mix-cons o m) = let rest = mix-parts old new behind (suc-inj l) m in (mix-cons o (rest .0), rest .1)
 
 abbrev Same : List ℕ → List ℕ → Type 0
 Same cut image = (opening cut ≡ opening image) × (openingImage cut ≡ openingImage image) × (keptItems cut ≡ keptItems image)
@@ -150,7 +125,7 @@ module _ (image : List ℕ) (size : length image ≡ 4096) (bytes : Bytes image)
   old-long = states-size image size bytes
 
   first-long : length (firstStates old es) ≡ 126
-  first-long = length-states-clear (clears-firstStates old es (same-size image size bytes)) ∙ old-long
+  first-long = length-steps (steps-firstPass old es (same-size image size bytes)) ∙ old-long
 
   new-long : length (openedStates old es) ≡ 126
   new-long = length-openedStates old es ∙ old-long
@@ -169,64 +144,58 @@ module _ (image : List ℕ) (size : length image ≡ 4096) (bytes : Bytes image)
   unfolding openedMap
   unpack-new = unpack-pack (openedStates old es ++ spare) (rw (length-append, new-long, spare-long))
 
-  -- a map that is new up to a unit and old after it, where both end in the spare states
-  spliced : (u : ℕ) (a b : List ℕ) (from to : States) → unpack a ≡ from ++ spare → unpack b ≡ to ++ spare → length from ≡ 126 → length to ≡ 126
-      → Mix from to (statesOf (splice (4 * u) b a)) × (drop 126 (unpack (splice (4 * u) b a)) ≡ spare)
-  spliced u a b from to ea eb la lb =
-      let same : length from ≡ length to = la ∙ sym lb in
-      let long : length (unpack a) ≡ length (unpack b) = ap length ea ∙ length-append from spare ∙ ap (λ (n : ℕ). n + length spare) same ∙ sym (ap length eb ∙ length-append to spare) in
-      let mixed : Mix (from ++ spare) (to ++ spare) (unpack (splice (4 * u) b a)) =
-      rw (unpack-splice (4 * u) b a, ← ea, ← eb) (mix-take (4 * (4 * u)) (unpack a) (unpack b) long) in
-      subst (λ (n : ℕ). Mix from to (take n (unpack (splice (4 * u) b a))) × (drop n (unpack (splice (4 * u) b a)) ≡ spare)) la
-      (mix-parts from to spare same mixed)
-
   -- ---- the cut
+
+  -- a map between two whose states end in the spare ones: a mix of their states, and the spare ones
+  between-maps : {a mid b : List ℕ} {from to : States} → Bytes a → Steps from to → unpack a ≡ from ++ spare → unpack b ≡ to ++ spare
+      → length from ≡ 126 → length to ≡ 126 → Between a mid b → Mix from to (statesOf mid) × (drop 126 (unpack mid) ≡ spare)
+  between-maps {a} {mid} {b} {from} {to} bytes steps ea eb la lb c =
+      let parts = mix-append from to (la ∙ sym lb) (between-mix bytes (steps-append steps (steps-same spare)) c ea eb) in
+      let long : length (parts .first) ≡ 126 = length-mix (parts .first-mix) ∙ la in (
+        subst (Mix from to) (sym (ap (take 126) (parts .split) ∙ take-at (parts .first) (parts .rest) 126 long)) (parts .first-mix),
+        ap (drop 126) (parts .split) ∙ drop-at (parts .first) (parts .rest) 126 long ∙ mix-same (parts .rest-mix),
+      )
 
   module _ (opens : headerVerdictOf image ≡ Opens) where
     -- in a pass from one map to another, each mix of whose states is a cut opening
-    cut-pass : (a b : List ℕ) (from to : States) → length a ≡ 32 → OnlyClears a b → Bytes (head ++ (a ++ tail)) → unpack a ≡ from ++ spare
-        → unpack b ≡ to ++ spare → length from ≡ 126 → length to ≡ 126 → ((mid : States) → Mix from to mid → CutOpening old mid es)
-        → (n : ℕ) → Same (run (take n (changedUnits 0 8 a b)) (head ++ (a ++ tail))) image
-    cut-pass a b from to size-a clears bytes-a ea eb la lb cuts n =
-        let done = take n (changedUnits 0 8 a b) in
-        let r = reached head a b tail head-size size-a clears bytes-a 0 8 n (omega arith) in
-        let mid = splice (4 * r .unit-at) b a in
-        let mid-size : length mid ≡ 32 = length-splice (4 * r .unit-at) clears ∙ size-a in
-        let parts = spliced (r .unit-at) a b from to ea eb la lb in
-        let c = cuts (statesOf mid) (parts .0) in
-        subst (λ (x : List ℕ). Same x image) (sym (r .image))
-        (opens-same opens mid mid-size (openedStates-cut (same-size image size bytes) c) (keptFrom-cut zero (same-size image size bytes) c) (parts .1)
-        (subst Bytes (r .image) (bytes-run done bytes-a)))
+    cut-pass : (a b : List ℕ) (from to : States) → length a ≡ 32 → length b ≡ 32 → Bytes (head ++ (a ++ tail)) → Steps from to
+        → unpack a ≡ from ++ spare → unpack b ≡ to ++ spare → length from ≡ 126 → length to ≡ 126
+        → ((mid : States) → Mix from to mid → CutOpening old mid es)
+        → {cut : List ℕ} → Between (head ++ (a ++ tail)) cut (head ++ (b ++ tail)) → Same cut image
+    cut-pass a b from to size-a size-b bytes-a steps ea eb la lb cuts {cut} c =
+        let after = after-front head c in
+        let same = before-back a b (size-a ∙ sym size-b) (after .between) in
+        let mid = same .first in
+        let split : cut ≡ head ++ (mid ++ tail) = after .split ∙ ap (λ (rest : List ℕ). head ++ rest) (same .split) in
+        let mid-size : length mid ≡ 32 = length-clears (same .between .begun) ∙ size-a in
+        let map-bytes = subst Bytes (mapOf-parts head a tail head-size size-a) (bytes-take 32 (bytes-drop 32 bytes-a)) in
+        let parts = between-maps map-bytes steps ea eb la lb (same .between) in
+        let opening-cut = cuts (statesOf mid) (parts .0) in
+        subst (λ (x : List ℕ). Same x image) (sym split)
+        (opens-same opens mid mid-size (openedStates-cut (same-size image size bytes) opening-cut) (keptFrom-cut zero (same-size image size bytes) opening-cut)
+        (parts .1) (subst Bytes split (bytes-clears bytes-a (c .begun))))
 
-    cut-first : (n : ℕ) → Same (run (take n (first image size bytes)) image) image
-    cut-first n =
-        subst (λ (before : List ℕ). Same (run (take n (first image size bytes)) before) image) (sym (image-parts image))
-        (cut-pass (mapOf image) (firstMap image) old (firstStates old es) (map-size image size) (map-first image size bytes) (before image size bytes)
-        unpack-old unpack-first old-long first-long (λ mid m. in-first m) n)
+    cut-first : {cut : List ℕ} → Between image cut (run (first image size bytes) image) → Same cut image
+    cut-first c =
+        cut-pass (mapOf image) (firstMap image) old (firstStates old es) (map-size image size) (first-size image size bytes) (before image size bytes)
+        (steps-firstPass old es (same-size image size bytes)) unpack-old unpack-first old-long first-long (λ mid m. in-first m)
+        (between-ends (image-parts image) (run-first image size bytes) c)
 
-    cut-second : (n : ℕ) → Same (run (take n (second image size bytes)) (run (first image size bytes) image)) image
-    cut-second n =
-        subst (λ (before : List ℕ). Same (run (take n (second image size bytes)) before) image) (sym (run-first image size bytes))
-        (cut-pass (firstMap image) (openedMap image) (firstStates old es) (openedStates old es) (first-size image size bytes) (map-second image size bytes)
-        (between image size bytes) unpack-first unpack-new first-long new-long (λ mid m. in-second m) n)
+    cut-second : {cut : List ℕ} → Between (run (first image size bytes) image) cut (run (second image size bytes) (run (first image size bytes) image))
+        → Same cut image
+    cut-second c =
+        cut-pass (firstMap image) (openedMap image) (firstStates old es) (openedStates old es) (first-size image size bytes) (opened-size image size bytes)
+        (between image size bytes) (steps-secondPass old es (same-size image size bytes)) unpack-first unpack-new first-long new-long (λ mid m. in-second m)
+        (between-ends (run-first image size bytes) (run-second image size bytes) c)
 
-    opens-cut : (n : ℕ) → Same (run (take n (openingPlan image)) image) image
+    -- in either pass, inside a unit too
+    opens-cut : (n : ℕ) {cut : List ℕ} → CutAt (openingPlan image) image n cut → Same cut image
     unfolding openingPlan
-    opens-cut n = by-order (decLe n (length one))
+    opens-cut n {cut} c = by-phase (cut-append (first image size bytes) (second image size bytes) image n c)
       where
-        one : List Unit4
-        one = first image size bytes
-
-        two : List Unit4
-        two = second image size bytes
-
-        by-order : Dec (n ≤ length one) → Same (run (take n (one ++ two)) image) image
-        by-order (yes h) = subst (λ (plan : List Unit4). Same (run plan image) image) (sym (take-append-le n one two h)) (cut-first n)
-        by-order (no h) =
-            let more : length one ≤ n = omega arith in
-            subst (λ (cut : List ℕ). Same cut image)
-            (sym (run-budget n one two image ∙ ap (λ (done : List Unit4). run (take (n - length one) two) (run done image)) (take-all n one more)))
-            (cut-second (n - length one))
+        by-phase : CutInto (first image size bytes) (second image size bytes) image n cut → Same cut image
+        by-phase (of-first l c) = cut-first (cut-between (first image size bytes) image n c)
+        by-phase (of-second l c) = cut-second (cut-between (second image size bytes) (run (first image size bytes) image) (n - length (first image size bytes)) c)
 
 nothing-done : (n : ℕ) (image : List ℕ) → run (take n []) image ≡ image
 unfolding run
@@ -240,7 +209,7 @@ opening-cut image n sector = rw (eq-eqb (length image) 4096 (sector .size)) (by-
     unchanged = subst (λ (cut : List ℕ). Same cut image) (sym (nothing-done n image)) (refl, refl, refl)
 
     by-verdict : (v : HeaderVerdict) → headerVerdictOf image ≡ v → Same (run (take n (planFor v image)) image) image
-    by-verdict Opens e = opens-cut image (sector .size) (bytes-of image (sector .bytes)) e n
+    by-verdict Opens e = opens-cut image (sector .size) (bytes-of image (sector .bytes)) e n (whole-units-cut (openingPlan image) image n)
     by-verdict Blank e = unchanged
     by-verdict WrongPageState e = unchanged
     by-verdict WrongVersion e = unchanged

@@ -8,11 +8,12 @@ use Prim.Native.Nat.{ℕ, suc, _+_, _-_, _*_, _≤_, _<_}
 use native.Mathlib.Decide.{decLe}
 use native.Mathlib.Omega.{arith}
 use lib.Dec.{leb}
-use lib.ListN.{length, take, drop, replicate}
+use lib.ListN.{length, take, replicate}
 use lib.Seq.{take-at}
 use borrow.Author.Tests.{eq-eqb, le-leb, lt-leb}
 use Rattle.flash.specs.Flash.{Unit4, run}
-use Rattle.flash.proofs.Laws.{Bytes, bytes-take, length-run}
+use Rattle.flash.proofs.Laws.{Bytes, bytes-take, length-run, clears-run}
+use Rattle.flash.proofs.Cuts.{between-new, whole-units-cut}
 use Rattle.page.specs.Record.{uninitialized}
 use Rattle.page.specs.Writing.{fullUnits}
 use Rattle.sector.specs.declared.Answer.the-variants.{Done}
@@ -25,10 +26,10 @@ use Rattle.theorem_writing.specs.Promises.{outcomeOf, imageOf, entryUnits}
 use Rattle.theorem_writing.proofs.Answers.{accepts}
 use Rattle.theorem_power_cut.specs.History.{AppendOrCopy, newItem, callOf, putRequest}
 use Rattle.theorem_power_cut.specs.PowerCut.{Begins}
-use Rattle.theorem_power_cut.proofs.Standing.{Standing, standing-size, front-bytes}
-use Rattle.theorem_power_cut.proofs.Begun.{marks, plan, headerAt, restAt, image-before, image-after, headerAt-size, kept-before, kept-after, header-after, run-plan, standing-after}
+use Rattle.theorem_power_cut.proofs.Standing.{Standing, standing-size}
+use Rattle.theorem_power_cut.proofs.Begun.{plan, header-after, bytes-begun, MarksBegun, marks-begun, header-size, kept-before, kept-after, run-plan, standing-after}
 use Rattle.theorem_power_cut.proofs.AtHand.{with-item}
-use Rattle.theorem_power_cut.proofs.Headers.{HeaderOpens, opens-of, header-opens, image-opens, active-word, full-cut, full-whole, full-drop, full-opens, full-state}
+use Rattle.theorem_power_cut.proofs.Headers.{HeaderOpens, opens-of, header-opens, image-opens, active-word, full-between, full-drop, full-opens, full-state}
 use Rattle.theorem_power_cut.proofs.Accepted.{write-accepted}
 use Rattle.theorem_power_cut.proofs.Started.{page, start, next-is, Started}
 use Rattle.theorem_power_cut.proofs.Held.{Held}
@@ -62,18 +63,21 @@ module _ {image : List ℕ} {items : List Item} (p : Standing image items) (open
 
     -- ---- cut after n units
 
-    opens-cut : HeaderOpens (run (take n (plan p (s .lays))) image)
+    abbrev cut : List ℕ
+    cut = run (take n (plan p (s .lays))) image
+
+    in-marks : length us < n → MarksBegun p (s .lays) cut
+    in-marks h = marks-begun p (s .lays) n h (whole-units-cut (plan p (s .lays)) image n)
+
+    opens-cut : HeaderOpens cut
     opens-cut = by-order (decLe n (length us))
       where
-        by-order : Dec (n ≤ length us) → HeaderOpens (run (take n (plan p (s .lays))) image)
-        by-order (yes h) =
-            let rest = drop (length (front-bytes p)) (run (take n us) (front-bytes p ++ replicate (32 * p .spare) 0xFF)) in
-            opens-split (p .header) (p .map ++ (p .used ++ rest)) (image-before p (s .lays) n h) (p .header-size) header-opens-here
+        by-order : Dec (n ≤ length us) → HeaderOpens cut
+        by-order (yes h) = let b = bytes-begun p (s .lays) n h in opens-split (p .header) (p .map ++ (p .used ++ b .rest)) (b .split) (p .header-size) header-opens-here
         by-order (no h) =
-            let more : length us < n = omega arith in
-            let q = n - length us - length (marks p (s .lays)) in
-            opens-split (headerAt p (s .lays) n) (restAt p (s .lays) n) (image-after p (s .lays) n more) (headerAt-size p (s .lays) n)
-            (full-opens header-opens-here (full-cut q (start p + suc (length (s .new))) word))
+            let m = in-marks (omega arith) in
+            opens-split (m .header) _ (m .split) (header-size p (s .lays) m)
+            (full-opens header-opens-here (full-between (start p + suc (length (s .new))) word (m .header-between)))
 
     -- the new item, at its index
     new-is : newItem write (page p) ≡ item (start p) (s .entry ∷ s .new)
@@ -82,18 +86,17 @@ module _ {image : List ℕ} {items : List Item} (p : Standing image items) (open
     pub cut-opens : opening (imageOf (callOf write) image (page p) n) .answer ≡ Done
     unfolding opening
     cut-opens =
-        let cut = run (take n (plan p (s .lays))) image in
         let size : length cut ≡ 4096 = length-run (take n (plan p (s .lays))) image ∙ standing-size p in
         rw (s .image-is, eq-eqb (length cut) 4096 size, opens-of cut opens-cut)
 
     pub cut-kept : keptItems (imageOf (callOf write) image (page p) n) ≡ cond (leb n (length us)) items (items ++ (newItem write (page p) ∷ []))
     cut-kept = ap keptItems (s .image-is) ∙ by-order (decLe n (length us))
       where
-        by-order : Dec (n ≤ length us) → keptItems (run (take n (plan p (s .lays))) image) ≡ cond (leb n (length us)) items (items ++ (newItem write (page p) ∷ []))
-        by-order (yes h) = rw (le-leb n (length us) h) (kept-before p (s .lays) n h)
+        by-order : Dec (n ≤ length us) → keptItems cut ≡ cond (leb n (length us)) items (items ++ (newItem write (page p) ∷ []))
+        by-order (yes h) = rw (le-leb n (length us) h) (kept-before p (s .lays) (bytes-begun p (s .lays) n h))
         by-order (no h) =
             let more : length us < n = omega arith in
-            rw (lt-leb n (length us) more) (kept-after p (s .lays) n more ∙ ap (λ (new : Item). items ++ (new ∷ [])) (sym new-is))
+            rw (lt-leb n (length us) more) (kept-after p (s .lays) (in-marks more) ∙ ap (λ (new : Item). items ++ (new ∷ [])) (sym new-is))
 
     -- ---- done
 
@@ -104,7 +107,7 @@ module _ {image : List ℕ} {items : List Item} (p : Standing image items) (open
         let span = suc (length (s .new)) in
         let after = standing-after p (s .lays) in
         let end = start p + span in
-        let full = full-whole end word in
+        let full = full-between end word (between-new (clears-run (fullUnits end) (p .header))) in
         rw (s .done d .0, s .done d .1, new-is)
         (record {
           standing = after;

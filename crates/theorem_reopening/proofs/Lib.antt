@@ -5,4 +5,5 @@ pub mod Cuts
 pub mod OpenedFront
 pub mod KeptItem
 pub mod ErasedBytes
+pub mod Mixed
 pub mod TwoPasses

@@ -1,20 +1,17 @@
 -- Opening cut anywhere and opened again gives what one whole opening gives.
 --
--- In order: a mix of two lists of states; what the two passes make of each entry; a refused item stays refused; a cut in the first pass, and one in
--- the second; both passes only clear bits; the cut anywhere. A mix takes each entry from either list, so that neither the order inside a pass nor
--- the borders of units play a part.
-use mathlib.Core.Path.{_≡_, refl, sym, ap₂}
+-- In order: what the two passes make of each entry; a refused item stays refused; a cut in the first pass, and one in the second; each pass changes
+-- a state by at most one bit; the cut anywhere. What a cut leaves of a pass is a mix of the states before and after it (Mixed).
+use mathlib.Core.Path.{_≡_, refl, ap₂}
 use mathlib.Core.Bool.{Bool, true, false, _&&_, not, cond, false≢true, and-eq-true-iff}
-use mathlib.Core.List.{List, [], _∷_, _++_}
+use mathlib.Core.List.{List, [], _∷_}
 use mathlib.Core.Option.{Option, none, some}
 use Prim.Native.Nat.{ℕ, zero, suc}
-use native.Mathlib.Nat.{suc-inj, suc-ne-zero}
-use lib.ListN.{length, take, drop}
+use lib.ListN.{length, take}
 use Rattle.flash.specs.Flash.{allOnes}
 use Rattle.sector.specs.declared.EntryMapState.{EntryMapState}
 use Rattle.sector.specs.declared.EntryMapState.the-variants.{Empty, Written, Erased, Illegal}
 use Rattle.sector.specs.Map.{sameState}
-use Rattle.sector.proofs.Marks.{both, both-self, both-erased, StatesClear, states-nil, states-cons}
 use Rattle.opening_reading.specs.declared.Reason.{Reason}
 use Rattle.opening_reading.specs.declared.Verdict.the-variants.{RefusedItem}
 use Rattle.opening_reading.specs.Reading.{headerRefusal, payloadRefusal, isUsable, usable, itemVerdict, walk, keptFrom, isFreeTail, openedStates}
@@ -22,33 +19,9 @@ use Rattle.opening_marks.specs.Marks.{upperCleared, firstPass}
 use Rattle.opening.specs.Opening.{refusedHeaders}
 use Rattle.opening_reading.proofs.Verdicts.{States, Entries, Good, Spoiled, verdict-refusedItem, verdict-keptItem}
 use Rattle.theorem_reopening.proofs.Course.{Course, course}
-use Rattle.opening_reading.proofs.Midway.{Gone, isErased, isIllegal, AllGone, gone-zero, gone-suc, Midway, midway-gone, walk-zero, midway-alike, midway-kept, both-written}
+use Rattle.theorem_reopening.proofs.Mixed.{oneOf-same, the-old, the-new, Mix, mix-nil, mix-cons, Step, stays, writes, spoils, erases, shuts, Steps, steps-nil, steps-cons}
+use Rattle.opening_reading.proofs.Midway.{Gone, isErased, isIllegal, AllGone, gone-zero, gone-suc, Midway, midway-gone, walk-zero, midway-alike, midway-kept}
 use Rattle.theorem_reopening.proofs.Reopened.{openedFrom}
-
--- ---- a mix of two lists of states
-
--- one of two states
-pub data OneOf (s t : EntryMapState) : EntryMapState → Type 0 where
-  the-old : OneOf s t s
-  the-new : OneOf s t t
-
-oneOf-same : {s m : EntryMapState} → OneOf s s m → m ≡ s
-oneOf-same the-old = refl
-oneOf-same the-new = refl
-
--- each state is the old one or the new one
-pub data Mix : States → States → States → Type 0 where
-  mix-nil : Mix [] [] []
-  mix-cons : {s t m : EntryMapState} {old new mid : States} → OneOf s t m → Mix old new mid → Mix (s ∷ old) (t ∷ new) (m ∷ mid)
-
--- the new states up to an entry, and the old ones from there on
-pub mix-take : (n : ℕ) (old new : States) → length old ≡ length new → Mix old new (take n new ++ drop n old)
-mix-take zero [] [] l = mix-nil
-mix-take (suc n) [] [] l = mix-nil
-mix-take n [] (t ∷ new) l = absurd (suc-ne-zero (length new) (sym l))
-mix-take n (s ∷ old) [] l = absurd (suc-ne-zero (length old) l)
-mix-take zero (s ∷ old) (t ∷ new) l = mix-cons the-old (mix-take zero old new (suc-inj l))
-mix-take (suc n) (s ∷ old) (t ∷ new) l = mix-cons the-new (mix-take n old new (suc-inj l))
 
 -- ---- the two passes
 
@@ -201,33 +174,43 @@ second-midway (erasesBehind s entry p) (mix-cons {m = t} x m) = Midway.erasesBeh
 second-midway (keepsBehind s entry u p) (mix-cons {m = t} x m) = Midway.keepsBehind t s entry (second-midway p m)
 second-midway (goesOn p) m = Midway.goesOn (second-midway p m)
 
--- ---- both passes only clear bits
+-- ---- each pass changes a state by at most one bit
 
-both-upperCleared : (s : EntryMapState) → both s (upperCleared s) ≡ upperCleared s
-both-upperCleared Empty = refl
-both-upperCleared Written = refl
-both-upperCleared Erased = refl
-both-upperCleared Illegal = refl
+step-upperCleared : (s : EntryMapState) → Step s (upperCleared s)
+step-upperCleared Empty = spoils
+step-upperCleared Written = erases
+step-upperCleared Erased = stays
+step-upperCleared Illegal = stays
+
+step-gone : {s : EntryMapState} → Gone s → Step s Erased
+step-gone isErased = stays
+step-gone isIllegal = shuts
+
+step-written : (s : EntryMapState) → isUsable s ≡ true → Step s Written
+step-written Empty u = writes
+step-written Written u = stays
+step-written Erased u = absurd (false≢true u)
+step-written Illegal u = absurd (false≢true u)
 
 -- of the states before to those after the first pass, and of these to those after the second
-abbrev Clears : States → States → States → Type 0
-Clears old first new = StatesClear old first × StatesClear first new
+abbrev BothStep : States → States → States → Type 0
+BothStep old first new = Steps old first × Steps first new
 
-clears-cons : {s t u : EntryMapState} {old first new : States} → both s t ≡ t → both t u ≡ u → Clears old first new → Clears (s ∷ old) (t ∷ first) (u ∷ new)
-clears-cons e f c = (states-cons e (c .0), states-cons f (c .1))
+both-cons : {s t u : EntryMapState} {old first new : States} → Step s t → Step t u → BothStep old first new → BothStep (s ∷ old) (t ∷ first) (u ∷ new)
+both-cons x y b = (steps-cons x (b .0), steps-cons y (b .1))
 
-clears : {k : ℕ} {mark : EntryMapState} {old first new : States} {entries : Entries} → Passes k mark old first new entries → Clears old first new
-clears ends = (states-nil, states-nil)
-clears (staysEmpty entry p) = clears-cons refl refl (clears p)
-clears (shutsEmpty entry e p) = clears-cons refl refl (clears p)
-clears (staysErased entry p) = clears-cons refl refl (clears p)
-clears (shutsIllegal entry p) = clears-cons refl refl (clears p)
-clears (refusesEntry entry e p) = clears-cons refl refl (clears p)
-clears (refusesItem entry s p) = clears-cons refl refl (clears p)
-clears (keepsItem entry g p) = clears-cons refl refl (clears p)
-clears (erasesBehind s entry p) = clears-cons (both-upperCleared s) (both-erased (upperCleared s)) (clears p)
-clears (keepsBehind s entry u p) = clears-cons (both-self s) (both-written s u) (clears p)
-clears (goesOn p) = clears p
+both-step : {k : ℕ} {mark : EntryMapState} {old first new : States} {entries : Entries} → Passes k mark old first new entries → BothStep old first new
+both-step ends = (steps-nil, steps-nil)
+both-step (staysEmpty entry p) = both-cons stays stays (both-step p)
+both-step (shutsEmpty entry e p) = both-cons spoils shuts (both-step p)
+both-step (staysErased entry p) = both-cons stays stays (both-step p)
+both-step (shutsIllegal entry p) = both-cons stays shuts (both-step p)
+both-step (refusesEntry entry e p) = both-cons erases stays (both-step p)
+both-step (refusesItem entry s p) = both-cons stays erases (both-step p)
+both-step (keepsItem entry g p) = both-cons stays stays (both-step p)
+both-step (erasesBehind s entry p) = both-cons (step-upperCleared s) (step-gone (gone-upperCleared s)) (both-step p)
+both-step (keepsBehind s entry u p) = both-cons stays (step-written s u) (both-step p)
+both-step (goesOn p) = both-step p
 
 -- ---- the cut anywhere
 
@@ -235,14 +218,14 @@ clears (goesOn p) = clears p
 abbrev pub firstStates : States → Entries → States
 firstStates states entries = firstPass states (openedStates states entries) (refusedHeaders zero states entries)
 
-pub clears-firstStates : (states : States) (entries : Entries) → length states ≡ length entries → StatesClear states (firstStates states entries)
+pub steps-firstPass : (states : States) (entries : Entries) → length states ≡ length entries → Steps states (firstStates states entries)
 unfolding openedStates
-clears-firstStates states entries l = clears (passes (course states entries l)) .0
+steps-firstPass states entries l = both-step (passes (course states entries l)) .0
 
-pub clears-secondPass : (states : States) (entries : Entries) → length states ≡ length entries
-    → StatesClear (firstStates states entries) (openedStates states entries)
+pub steps-secondPass : (states : States) (entries : Entries) → length states ≡ length entries
+    → Steps (firstStates states entries) (openedStates states entries)
 unfolding openedStates
-clears-secondPass states entries l = clears (passes (course states entries l)) .1
+steps-secondPass states entries l = both-step (passes (course states entries l)) .1
 
 -- a page that opening leaves as it is, the first pass leaves too
 pub firstPass-same : (states : States) (headers : List Bool) → firstPass states states headers ≡ states

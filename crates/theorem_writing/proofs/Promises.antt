@@ -12,8 +12,8 @@ use lib.Dec.{eqb, ltb}
 use lib.ListN.{length, take, getD}
 use lib.Seq.{take-all}
 use borrow.Author.Tests.{ltb-true, ltb-false, lt-ltb, le-ltb, not-true}
-use Rattle.flash.specs.Flash.{Unit4, run, every}
-use Rattle.flash.proofs.Laws.{OnlyClears, clears-nil, clears-cons, clears-refl, clears-run, length-run, Outside, outside-take}
+use Rattle.flash.specs.Flash.{Unit4, run, every, OnlyClears, clears-nil, clears-cons}
+use Rattle.flash.proofs.Laws.{clears-refl, clears-run, length-run, Outside, outside-take}
 use Rattle.page.specs.declared.Outcome.{Outcome}
 use Rattle.page.specs.Record.{Page, free}
 use Rattle.page.specs.Writing.{badImage, overFree, answered, outcome, imageAfter, stops}
