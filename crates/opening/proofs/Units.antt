@@ -9,7 +9,10 @@ use borrow.Author.Tests.{le-ltb}
 use Rattle.sector.specs.Layout.{mapOf}
 use Rattle.opening_marks.specs.Marks.{changedUnits}
 use Rattle.opening_marks.proofs.Passes.{length-changed-le}
-use Rattle.opening.specs.Opening.{HeaderVerdict, Blank, Opens, WrongPageState, WrongVersion, WrongHeaderCrc, headerVerdictOf, openedMap, firstMap, openingPlan, planFor, opening, openingImage, openingStopped, openingStoppedImage}
+use Rattle.opening_found.specs.declared.HeaderVerdict.{HeaderVerdict}
+use Rattle.opening_found.specs.declared.HeaderVerdict.the-variants.{Blank, Opens, WrongPageState, WrongVersion, WrongHeaderCrc}
+use Rattle.opening_found.specs.Found.{headerVerdictOf}
+use Rattle.opening.specs.Opening.{openedMap, firstMap, openingPlan, planFor, opening, openingImage, openingStopped, openingStoppedImage}
 
 -- eight of the map in each pass at most
 pub length-plan-le : (image : List ℕ) → length (openingPlan image) ≤ 16

@@ -1,13 +1,14 @@
--- Opening (01, 'Opening'): which pages open, the map units that it programs, the record that it hands back.
+-- Opening (01, 'Opening'): the map units that it programs, the record that it hands back.
 --
--- In order: the header's verdict; the kept items and the list; the new map and its units, in two passes; answer and image; those of a call told to stop.
--- Not here: the reading (crate opening_reading), and what the passes do to the states and the units (crate opening_marks).
-use mathlib.Core.Bool.{Bool, true, false, _&&_, not, cond}
+-- In order: the list; the new map and its units, in two passes; answer and image; those of a call told to stop.
+-- Not here: the reading (crate opening_reading), which headers open and which items are kept (crate opening_found), and what the passes
+-- do to the states and the units (crate opening_marks).
+use mathlib.Core.Bool.{Bool, true, false, cond}
 use mathlib.Core.List.{List, [], _∷_, _++_}
 use Prim.Native.Nat.{ℕ, zero, suc}
 use lib.Dec.{eqb}
 use lib.ListN.{length, take, drop, getD}
-use Rattle.flash.specs.Flash.{Unit4, run, allOnes}
+use Rattle.flash.specs.Flash.{Unit4, run}
 use Rattle.page.specs.declared.Listed.{Listed}
 use Rattle.page.specs.declared.Outcome.{Outcome}
 use Rattle.page.specs.Record.{Page, padded, uninitialized}
@@ -15,39 +16,19 @@ use Rattle.page.specs.Writing.{answered, stops}
 use Rattle.sector.specs.declared.Answer.the-variants.{Done, BadImage, CorruptedData, Stopped}
 use Rattle.sector.specs.declared.EntryMapState.{EntryMapState}
 use Rattle.sector.specs.declared.EntryMapState.the-variants.{Written, Erased}
-use Rattle.sector.specs.Header.{stateOfWord, headerCrc, isUninitialized, isInUse}
+use Rattle.sector.specs.Header.{stateOfWord}
 use Rattle.sector.specs.Item.{hashOfItem}
 use Rattle.sector.specs.Layout.{sectorSize, entriesPerPage, mapOf, entriesOf, stateWord, sequenceOf, versionOf, storedHeaderCrc, namespaceOf}
 use Rattle.sector.specs.Map.{statesOf, unpack, pack, countIn}
 use Rattle.opening_marks.specs.Marks.{firstPass, changedUnits}
 use Rattle.opening_reading.specs.declared.Verdict.{Verdict}
 use Rattle.opening_reading.specs.declared.Verdict.the-variants.{NotAnItem, RefusedEntry, RefusedItem, Kept}
-use Rattle.opening_reading.specs.Reading.{verdictAt, stepsOver, Item, item, keptFrom, openedStates}
-pub use Rattle.opening.specs.declared.HeaderVerdict.{HeaderVerdict}
-pub use Rattle.opening.specs.declared.HeaderVerdict.the-variants.{Blank, Opens, WrongPageState, WrongVersion, WrongHeaderCrc}
+use Rattle.opening_reading.specs.Reading.{verdictAt, stepsOver, Item, item, openedStates}
+use Rattle.opening_found.specs.declared.HeaderVerdict.{HeaderVerdict}
+use Rattle.opening_found.specs.declared.HeaderVerdict.the-variants.{Blank, Opens, WrongPageState, WrongVersion, WrongHeaderCrc}
+use Rattle.opening_found.specs.Found.{headerVerdictOf, keptItems}
 
--- ---- the header
-
--- the first rule that applies; the page opens where none does
-abbrev pub firstVerdict : List (Bool × HeaderVerdict) → HeaderVerdict
-firstVerdict [] = Opens
-firstVerdict (rule ∷ rules) = cond (rule .0) (rule .1) (firstVerdict rules)
-
--- state before version before CRC
-unfoldable pub headerVerdictOf : List ℕ → HeaderVerdict
-headerVerdictOf image =
-    firstVerdict
-    ((isUninitialized (stateOfWord (stateWord image)) && allOnes image, Blank)
-    ∷ (not (isInUse (stateOfWord (stateWord image))), WrongPageState)
-    ∷ (not (eqb (versionOf image) 0xFE), WrongVersion)
-    ∷ (not (eqb (headerCrc image) (storedHeaderCrc image)), WrongHeaderCrc)
-    ∷ [])
-
--- ---- items
-
--- what the page's reading keeps
-unfoldable pub keptItems : List ℕ → List Item
-keptItems image = keptFrom zero zero (statesOf (mapOf image)) (entriesOf image)
+-- ---- the list
 
 abbrev pub headerOf : List (List ℕ) → List ℕ
 headerOf entries = getD entries 0 []

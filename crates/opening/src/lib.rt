@@ -8,6 +8,7 @@ ghost use Rattle.page.specs.Writing.{answered, stops};
 ghost use Rattle.sector.specs.declared.Answer.the-variants.{Done, Stopped};
 ghost use Rattle.sector.specs.Layout.{sectorSize};
 ghost use Rattle.opening.specs.Opening.{openedPage, openingPlan, opening, openingImage, openingStopped, openingStoppedImage};
+use opening_found::HeaderVerdict;
 use page::Listed;
 use page::Outcome;
 use page::ThinPage;
@@ -15,19 +16,9 @@ use sector::Answer;
 use sector::PageState;
 use sector::SECTOR_SIZE;
 
-mod header;
 mod kept;
 mod plan;
 mod walk;
-
-// What opening makes of a header: an erased page, a page that opens, or the first rule that refused it.
-pub enum HeaderVerdict {
-    Blank,
-    Opens,
-    WrongPageState,
-    WrongVersion,
-    WrongHeaderCrc,
-}
 
 // Items outside namespace 0: 126 places, of which len are in use.
 pub(crate) struct Listing {
@@ -133,7 +124,7 @@ pub fn open_stopped(image: &mut [u8], stop: usize) -> Outcome
     if image.len() != SECTOR_SIZE {
         return blank(Answer::BadImage);
     }
-    match header::header_verdict(&image[..]) {
+    match opening_found::header_verdict(&image[..]) {
         HeaderVerdict::Blank => blank(Answer::Done),
         HeaderVerdict::Opens => open_entries(image, stop),
         HeaderVerdict::WrongPageState => blank(Answer::CorruptedData),

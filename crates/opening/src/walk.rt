@@ -12,17 +12,6 @@ use opening_reading::Verdict;
 use sector::ENTRIES_PER_PAGE;
 use sector::EntryMapState;
 
-fn steps_over(verdict: Verdict) -> usize
-    ensures { λ r. ⌜ r ≡ stepsOver verdict ⌝ }
-{
-    match verdict {
-        Verdict::NotAnItem => 0,
-        Verdict::RefusedEntry(_) => 0,
-        Verdict::RefusedItem(_, covered) => covered,
-        Verdict::Kept(covered) => covered,
-    }
-}
-
 fn is_refused_item(verdict: Verdict) -> bool
     ensures { λ r. ⌜ r ≡ isRefusedItem verdict ⌝ }
 {
@@ -66,7 +55,7 @@ pub(crate) fn walk(image: &[u8], map: [u8; 32]) -> Walked
         marked = next;
         heads[index] = is_refused_item(verdict);
         listing = kept::listed_by(listing, image, index, verdict);
-        index = index + 1 + steps_over(verdict);
+        index = index + 1 + opening_reading::steps_over(verdict);
     }
     Walked {
         map: marked,

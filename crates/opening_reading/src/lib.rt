@@ -5,7 +5,7 @@ ghost use Prim.Native.Nat.{_+_, _≤_, _<_};
 ghost use lib.ListN.{length, take, drop};
 ghost use Rattle.sector.specs.Layout.{sectorSize, entriesPerPage, entryAt, entriesOf, spanOf};
 ghost use Rattle.sector.specs.Map.{stateAt, statesOf};
-ghost use Rattle.opening_reading.specs.Reading.{covered, isUsable, usable, firstRule, sizeTooBig, payloadCrcWrong, itemVerdict, verdictAt};
+ghost use Rattle.opening_reading.specs.Reading.{covered, isUsable, usable, firstRule, sizeTooBig, payloadCrcWrong, itemVerdict, verdictAt, stepsOver};
 use sector::CRC_START;
 use sector::ENTRIES_PER_PAGE;
 use sector::ENTRY_SIZE;
@@ -31,6 +31,18 @@ pub enum Verdict {
     RefusedEntry(Reason),
     RefusedItem(Reason, usize),
     Kept(usize),
+}
+
+// How many entries a walk steps over after the one that got the verdict.
+pub fn steps_over(verdict: Verdict) -> usize
+    ensures { λ r. ⌜ r ≡ stepsOver verdict ⌝ }
+{
+    match verdict {
+        Verdict::NotAnItem => 0,
+        Verdict::RefusedEntry(_) => 0,
+        Verdict::RefusedItem(_, covered) => covered,
+        Verdict::Kept(covered) => covered,
+    }
 }
 
 fn is_usable(state: EntryMapState) -> bool

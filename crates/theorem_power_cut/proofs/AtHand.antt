@@ -22,7 +22,8 @@ use Rattle.sector.specs.Item.{hashOfItem}
 use Rattle.sector.specs.Map.{statesOf, countIn, sameState, markRange}
 use Rattle.sector.proofs.Marks.{countIn-append}
 use Rattle.opening_reading.specs.Reading.{Item, item}
-use Rattle.opening.specs.Opening.{keptItems, openedMap, openedPage, headerOf, listedItems}
+use Rattle.opening_found.specs.Found.{keptItems}
+use Rattle.opening.specs.Opening.{openedMap, openedPage, headerOf, listedItems}
 use Rattle.opening_reading.proofs.Verdicts.{States, Entries}
 use Rattle.theorem_reopening.proofs.OpenedFront.{count-none}
 use Rattle.theorem_power_cut.proofs.Standing.{Standing, standing-map, standing-kept, standing-openedMap}

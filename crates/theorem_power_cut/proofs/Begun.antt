@@ -23,7 +23,7 @@ use Rattle.sector.proofs.Laws.{length-markRange}
 use Rattle.sector.proofs.Marks.{marked, marked-at, marked-empty, clears-markRange, mapOf-parts, map-front, state-front, run-mapUnits, first-mapUnit, statesOf-markRange}
 use Rattle.page.specs.Writing.{fullUnits, itemPlan}
 use Rattle.opening_reading.specs.Reading.{isUsable, Item, item, keptFrom}
-use Rattle.opening.specs.Opening.{keptItems}
+use Rattle.opening_found.specs.Found.{keptItems}
 use Rattle.opening_reading.proofs.Verdicts.{States, Entries, Whole}
 use Rattle.theorem_writing.proofs.FitRecords.{every-replicate}
 use Rattle.theorem_reopening.proofs.Closed.{closed-append-item}

@@ -18,8 +18,9 @@ use Rattle.sector.specs.Layout.{entryAddress, entryAt}
 use Rattle.sector.proofs.Marks.{within-mapUnits}
 use Rattle.call_erase.specs.Erase.{eraseChecks, erasePlan, erase, eraseImage}
 use Rattle.opening_reading.specs.Reading.{Item, item}
-use Rattle.opening.specs.Opening.{headerVerdictOf, keptItems, opening, openingImage}
-use Rattle.opening.specs.declared.HeaderVerdict.the-variants.{Blank}
+use Rattle.opening_found.specs.Found.{headerVerdictOf, keptItems}
+use Rattle.opening.specs.Opening.{opening, openingImage}
+use Rattle.opening_found.specs.declared.HeaderVerdict.the-variants.{Blank}
 use Rattle.theorem_writing.specs.Promises.{SetsNoBit, erasing, outcomeOf, imageOf, entryUnits}
 use Rattle.theorem_writing.proofs.Promises.{only-clears-bits}
 use Rattle.theorem_power_cut.specs.History.{AppendOrCopy, entriesOfWrite, newItem, withoutItem, History, opened, written, erased, callOf, putRequest}

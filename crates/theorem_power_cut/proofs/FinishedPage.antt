@@ -27,7 +27,8 @@ use Rattle.sector.specs.Layout.{chunks, stateWord, sequenceOf, versionOf, store
 use Rattle.sector.specs.Map.{countIn}
 use Rattle.sector.proofs.Laws.{number-littleEndian}
 use Rattle.call_page_state.specs.Calls.{initialiseChecks, initialisePlan, initialised, initialise, initialiseImage}
-use Rattle.opening.specs.Opening.{keptItems, opening, openingImage}
+use Rattle.opening_found.specs.Found.{keptItems}
+use Rattle.opening.specs.Opening.{opening, openingImage}
 use Rattle.theorem_writing.specs.Promises.{AsInCode}
 use Rattle.theorem_reopening.proofs.Closed.{closed-nil}
 use Rattle.theorem_power_cut.specs.PowerCut.{FinishedPageOpens}

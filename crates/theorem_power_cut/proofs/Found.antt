@@ -10,7 +10,7 @@ use Rattle.sector.specs.Map.{statesOf}
 use Rattle.sector.proofs.Laws.{length-statesOf, length-entriesOf}
 use Rattle.opening_reading.specs.Reading.{item}
 use Rattle.opening_reading.proofs.Verdicts.{Entries}
-use Rattle.opening.specs.Opening.{keptItems}
+use Rattle.opening_found.specs.Found.{keptItems}
 use Rattle.theorem_reopening.proofs.KeptItem.{WholeAt, kept-whole}
 
 pub map-size : (image : List ℕ) → length image ≡ 4096 → length (mapOf image) ≡ 32

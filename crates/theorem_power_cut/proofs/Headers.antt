@@ -23,8 +23,8 @@ use Rattle.sector.specs.Header.{stateOfWord, headerCrc, stateBytes, isUninitial
 use Rattle.sector.specs.Item.{crcStart}
 use Rattle.sector.specs.Layout.{number, littleEndian, stateWord, versionOf, storedHeaderCrc}
 use Rattle.sector.proofs.Laws.{littleEndian-number}
-use Rattle.opening.specs.Opening.{headerVerdictOf}
-use Rattle.opening.specs.declared.HeaderVerdict.the-variants.{Blank, Opens, WrongPageState, WrongVersion, WrongHeaderCrc}
+use Rattle.opening_found.specs.Found.{headerVerdictOf}
+use Rattle.opening_found.specs.declared.HeaderVerdict.the-variants.{Blank, Opens, WrongPageState, WrongVersion, WrongHeaderCrc}
 use Rattle.theorem_writing.proofs.FitRecords.{known-state}
 use Rattle.theorem_power_cut.proofs.AtHand.{field-front, version-front}
 

@@ -17,9 +17,10 @@ use Rattle.sector.specs.declared.Answer.the-variants.{Done}
 use Rattle.sector.specs.Layout.{mapOf, entriesOf}
 use Rattle.sector.proofs.Marks.{image-parts, mapOf-parts}
 use Rattle.opening_reading.specs.Reading.{Item}
-use Rattle.opening.specs.Opening.{headerVerdictOf, keptItems, openedMap, openingPlan, openedPage, answerFor, opening, openingImage}
-use Rattle.opening.specs.declared.HeaderVerdict.{HeaderVerdict}
-use Rattle.opening.specs.declared.HeaderVerdict.the-variants.{Blank, Opens, WrongPageState, WrongVersion, WrongHeaderCrc}
+use Rattle.opening_found.specs.Found.{headerVerdictOf, keptItems}
+use Rattle.opening.specs.Opening.{openedMap, openingPlan, openedPage, answerFor, opening, openingImage}
+use Rattle.opening_found.specs.declared.HeaderVerdict.{HeaderVerdict}
+use Rattle.opening_found.specs.declared.HeaderVerdict.the-variants.{Blank, Opens, WrongPageState, WrongVersion, WrongHeaderCrc}
 use Rattle.theorem_reopening.proofs.Cuts.{keptFrom-empties}
 use Rattle.theorem_writing.proofs.FitRecords.{bytes-of}
 use Rattle.theorem_power_cut.specs.History.{Sector}

@@ -30,8 +30,9 @@ use Rattle.sector.specs.Item.{crcStart}
 use Rattle.sector.specs.Layout.{number, littleEndian, stateWord, versionOf, storedHeaderCrc}
 use Rattle.sector.proofs.Laws.{accepted-head, littleEndian-number}
 use Rattle.call_page_state.specs.Calls.{initialiseChecks, initialisePlan, initialiseImage}
-use Rattle.opening.specs.Opening.{headerVerdictOf, answerFor, opening}
-use Rattle.opening.specs.declared.HeaderVerdict.the-variants.{Blank, Opens, WrongPageState, WrongVersion, WrongHeaderCrc}
+use Rattle.opening_found.specs.Found.{headerVerdictOf}
+use Rattle.opening.specs.Opening.{answerFor, opening}
+use Rattle.opening_found.specs.declared.HeaderVerdict.the-variants.{Blank, Opens, WrongPageState, WrongVersion, WrongHeaderCrc}
 use Rattle.theorem_power_cut.specs.PowerCut.{InitialiseCut}
 use Rattle.theorem_power_cut.proofs.Laid.{bytes-littleEndian}
 use Rattle.theorem_power_cut.proofs.Held.{blank-image}

@@ -17,7 +17,8 @@ use Rattle.sector.proofs.Laws.{length-statesOf, length-unpack, length-chunks, s
 use Rattle.sector.proofs.Marks.{states-refl, states-append, clears-pack, pack-unpack, unpack-pack, image-parts}
 use Rattle.opening_reading.specs.Reading.{keptFrom, openedStates}
 use Rattle.opening_marks.specs.Marks.{changedUnits}
-use Rattle.opening.specs.Opening.{keptItems, openedMap, firstMap, openingPlan}
+use Rattle.opening_found.specs.Found.{keptItems}
+use Rattle.opening.specs.Opening.{openedMap, firstMap, openingPlan}
 use Rattle.opening_reading.proofs.Verdicts.{States, Entries}
 use Rattle.theorem_reopening.proofs.Closed.{length-closed}
 use Rattle.theorem_reopening.proofs.Reopened.{length-openedStates, kept-openedStates}

@@ -18,9 +18,10 @@ use Rattle.sector.specs.Map.{statesOf, unpack, pack}
 use Rattle.sector.proofs.Laws.{length-unpack}
 use Rattle.sector.proofs.Marks.{image-parts, mapOf-parts, entries-parts, unpack-pack}
 use Rattle.opening_reading.specs.Reading.{keptFrom, openedStates}
-use Rattle.opening.specs.Opening.{headerVerdictOf, keptItems, openedMap, firstMap, openingPlan, openedPage, opening, openingImage, openingStoppedImage, planFor}
-use Rattle.opening.specs.declared.HeaderVerdict.{HeaderVerdict}
-use Rattle.opening.specs.declared.HeaderVerdict.the-variants.{Blank, Opens, WrongPageState, WrongVersion, WrongHeaderCrc}
+use Rattle.opening_found.specs.Found.{headerVerdictOf, keptItems}
+use Rattle.opening.specs.Opening.{openedMap, firstMap, openingPlan, openedPage, opening, openingImage, openingStoppedImage, planFor}
+use Rattle.opening_found.specs.declared.HeaderVerdict.{HeaderVerdict}
+use Rattle.opening_found.specs.declared.HeaderVerdict.the-variants.{Blank, Opens, WrongPageState, WrongVersion, WrongHeaderCrc}
 use Rattle.theorem_reopening.proofs.Reopened.{length-openedStates}
 use Rattle.opening_reading.proofs.Verdicts.{States, Entries}
 use Rattle.theorem_reopening.proofs.Mixed.{Mix, length-mix, mix-same, mix-append, Steps, length-steps, steps-same, steps-append, between-mix}

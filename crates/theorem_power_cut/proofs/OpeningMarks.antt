@@ -10,9 +10,10 @@ use Rattle.flash.specs.Flash.{Unit4, units, run}
 use Rattle.flash.proofs.Laws.{Within, within-nil, within-wider, within-append, within-take, within-units, take-run, drop-run}
 use Rattle.sector.specs.Layout.{sameBytes}
 use Rattle.opening_marks.specs.Marks.{mapUnit, changedUnits}
-use Rattle.opening.specs.declared.HeaderVerdict.{HeaderVerdict}
-use Rattle.opening.specs.declared.HeaderVerdict.the-variants.{Blank, Opens, WrongPageState, WrongVersion, WrongHeaderCrc}
-use Rattle.opening.specs.Opening.{headerVerdictOf, firstMap, openedMap, openingPlan, planFor, openingImage, openingStoppedImage}
+use Rattle.opening_found.specs.declared.HeaderVerdict.{HeaderVerdict}
+use Rattle.opening_found.specs.declared.HeaderVerdict.the-variants.{Blank, Opens, WrongPageState, WrongVersion, WrongHeaderCrc}
+use Rattle.opening_found.specs.Found.{headerVerdictOf}
+use Rattle.opening.specs.Opening.{firstMap, openedMap, openingPlan, planFor, openingImage, openingStoppedImage}
 use Rattle.theorem_writing.proofs.Promises.{after-clears}
 use Rattle.theorem_power_cut.specs.PowerCut.{MapAlone, OpeningMarksAlone}
 

@@ -17,7 +17,8 @@ use Rattle.sector.specs.Map.{unpack, pack, statesOf}
 use Rattle.sector.proofs.Marks.{mapOf-parts, entries-parts, pack-unpack}
 use Rattle.opening_reading.specs.Reading.{Item, keptFrom, openedStates}
 use Rattle.opening_marks.specs.Marks.{firstPass, mapUnit, changedUnits}
-use Rattle.opening.specs.Opening.{keptItems, openedMap, refusedHeaders, firstMap, openingPlan}
+use Rattle.opening_found.specs.Found.{keptItems}
+use Rattle.opening.specs.Opening.{openedMap, refusedHeaders, firstMap, openingPlan}
 use Rattle.opening_reading.proofs.Verdicts.{States}
 use Rattle.theorem_reopening.proofs.Closed.{Closed}
 use Rattle.theorem_reopening.proofs.TwoPasses.{firstPass-same}

@@ -20,7 +20,8 @@ use Rattle.sector.specs.declared.Answer.the-variants.{Done}
 use Rattle.sector.specs.declared.PageState.the-variants.{Active}
 use Rattle.sector.specs.Header.{stateBytes}
 use Rattle.opening_reading.specs.Reading.{Item, item}
-use Rattle.opening.specs.Opening.{keptItems, opening}
+use Rattle.opening_found.specs.Found.{keptItems}
+use Rattle.opening.specs.Opening.{opening}
 use Rattle.theorem_reopening.proofs.OpenedFront.{count-closed}
 use Rattle.theorem_writing.specs.Promises.{outcomeOf, imageOf, entryUnits}
 use Rattle.theorem_writing.proofs.Answers.{accepts}

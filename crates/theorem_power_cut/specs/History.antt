@@ -19,7 +19,8 @@ use Rattle.call_append.specs.Append.{singleBytes, variableHeader, spanFor}
 use Rattle.call_erase.specs.Erase.{erase, eraseImage}
 use Rattle.theorem_writing.specs.Promises.{PutRequest, single, variable, copied, Call, putting, outcomeOf, imageOf}
 use Rattle.opening_reading.specs.Reading.{Item, item}
-use Rattle.opening.specs.Opening.{opening, openingImage, keptItems}
+use Rattle.opening_found.specs.Found.{keptItems}
+use Rattle.opening.specs.Opening.{opening, openingImage}
 
 -- ---- what a caller can hand in
 

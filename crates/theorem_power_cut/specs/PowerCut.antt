@@ -25,7 +25,8 @@ use Rattle.call_page_state.specs.Calls.{initialiseChecks, initialisePlan, initi
 use Rattle.call_erase.specs.Erase.{erase, eraseImage}
 use Rattle.theorem_writing.specs.Promises.{SetsNoBit, AsInCode, outcomeOf, imageOf, entryUnits}
 use Rattle.opening_reading.specs.Reading.{Item, item}
-use Rattle.opening.specs.Opening.{headerOf, keptItems, opening, openingImage, openingStoppedImage}
+use Rattle.opening_found.specs.Found.{keptItems}
+use Rattle.opening.specs.Opening.{headerOf, opening, openingImage, openingStoppedImage}
 use Rattle.theorem_power_cut.specs.History.{Sector, VariableRequest, AppendOrCopy, a-variable, entriesOfWrite, newItem, History, callOf, putRequest}
 
 -- ---- the demand

@@ -12,9 +12,10 @@ use Rattle.page.specs.Writing.{answered, stops}
 use Rattle.sector.specs.declared.Answer.the-variants.{Stopped}
 use Rattle.sector.specs.Answers.{accepted}
 use Rattle.call_load_data.specs.Payload.{dataChecks, dataAnswer, dataOutput}
-use Rattle.opening.specs.declared.HeaderVerdict.{HeaderVerdict}
-use Rattle.opening.specs.declared.HeaderVerdict.the-variants.{Blank, Opens, WrongPageState, WrongVersion, WrongHeaderCrc}
-use Rattle.opening.specs.Opening.{headerVerdictOf, answerFor, planFor, openingStopped, openingStoppedImage}
+use Rattle.opening_found.specs.declared.HeaderVerdict.{HeaderVerdict}
+use Rattle.opening_found.specs.declared.HeaderVerdict.the-variants.{Blank, Opens, WrongPageState, WrongVersion, WrongHeaderCrc}
+use Rattle.opening_found.specs.Found.{headerVerdictOf}
+use Rattle.opening.specs.Opening.{answerFor, planFor, openingStopped, openingStoppedImage}
 use Rattle.theorem_writing.specs.Promises.{isRefusal}
 use Rattle.theorem_refusals.specs.Refusals.{RefusedLoadsNothing, RefusedOpensNothing}
 

@@ -10,7 +10,8 @@ use Rattle.call_page_state.specs.Calls.{initialised, initialisePlan, initialise
 use Rattle.call_load_data.specs.Payload.{dataAnswer}
 use Rattle.call_load.specs.Load.{loadItem}
 use Rattle.opening_marks.specs.Marks.{changedUnits}
-use Rattle.opening.specs.Opening.{headerVerdictOf, keptItems, openedMap, firstMap, openingPlan, openingImage}
+use Rattle.opening_found.specs.Found.{headerVerdictOf, keptItems}
+use Rattle.opening.specs.Opening.{openedMap, firstMap, openingPlan, openingImage}
 use Rattle.opening_reading.specs.Reading.{headerRefusal, payloadRefusal, openedStates}
 use Rattle.page.specs.Record.{fitToUse, withItem, without, withErased}
 use Rattle.page.specs.Writing.{itemPlan}

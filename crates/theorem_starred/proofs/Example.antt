@@ -14,7 +14,8 @@ use Rattle.call_erase.specs.Erase.{erasePlan, erase, eraseImage}
 use Rattle.flash.specs.Flash.{allOnes, program, units, run}
 use Rattle.call_page_state.specs.Calls.{initialised, initialisePlan, initialiseImage}
 use Rattle.opening_marks.specs.Marks.{changedUnits}
-use Rattle.opening.specs.Opening.{headerVerdictOf, keptItems, openedMap, firstMap, openingPlan, openedPage, opening, openingImage}
+use Rattle.opening_found.specs.Found.{headerVerdictOf, keptItems}
+use Rattle.opening.specs.Opening.{openedMap, firstMap, openingPlan, openedPage, opening, openingImage}
 use Rattle.page.specs.Record.{Page, nextFree, fitToUse, withItem, without, withErased}
 use Rattle.page.specs.Writing.{itemPlan}
 use Rattle.opening_reading.specs.Reading.{headerRefusal, payloadRefusal, Item, item, openedStates}

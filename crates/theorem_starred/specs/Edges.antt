@@ -27,7 +27,8 @@ use Rattle.call_purge.specs.Purge.{purgeImage}
 use Rattle.call_load_data.specs.Payload.{dataAnswer}
 use Rattle.call_load.specs.Load.{loadItem}
 use Rattle.opening_reading.specs.Reading.{Item, item, joined}
-use Rattle.opening.specs.Opening.{keptItems, openingImage}
+use Rattle.opening_found.specs.Found.{keptItems}
+use Rattle.opening.specs.Opening.{openingImage}
 
 -- ---- pages and requests
 

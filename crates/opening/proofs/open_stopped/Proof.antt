@@ -14,7 +14,8 @@ use Rattle.page.specs.declared.Outcome.{Outcome}
 use Rattle.page.specs.Record.{uninitialized}
 use Rattle.page.specs.Writing.{answered, stops}
 use Rattle.sector.specs.declared.Answer.the-variants.{Stopped}
-use Rattle.opening.specs.Opening.{HeaderVerdict, answerFor, planFor, openingStopped, openingStoppedImage}
+use Rattle.opening_found.specs.declared.HeaderVerdict.{HeaderVerdict}
+use Rattle.opening.specs.Opening.{answerFor, planFor, openingStopped, openingStoppedImage}
 use Rattle.opening.proofs.open_stopped.Statement.{statement}
 use Rattle.opening.proofs.open_stopped.Tie as tie
 

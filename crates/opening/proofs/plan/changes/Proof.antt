@@ -8,7 +8,8 @@ use Rattle.sector.specs.Map.{statesOf}
 use Rattle.opening_reading.specs.Reading.{openedStates}
 use Rattle.opening_marks.specs.Marks.{HasStates, firstPass}
 use Rattle.opening.specs.declared.Listing.{Listing}
-use Rattle.opening.specs.Opening.{keptItems, listedItems, openedMap, refusedHeaders, firstMap, openedPage}
+use Rattle.opening_found.specs.Found.{keptItems}
+use Rattle.opening.specs.Opening.{listedItems, openedMap, refusedHeaders, firstMap, openedPage}
 use Rattle.opening.specs.Steps.{listingOf, headerRecord}
 use Rattle.opening_marks.proofs.Arrays.{bytes-of-array}
 use Rattle.opening_marks.proofs.Passes.{has-states}

@@ -1,15 +1,24 @@
-// What opening makes of a page's header (01, 'Opening'): state before version before CRC.
+// What a page holds, read out of its image without programming it (01, 'Opening'): what its header says, state before version
+// before CRC.
 ghost use mathlib.Core.Path.{_≡_};
 ghost use lib.ListN.{length};
 ghost use Rattle.sector.specs.Layout.{sectorSize};
-ghost use Rattle.opening.specs.Opening.{headerVerdictOf};
-use crate::HeaderVerdict;
+ghost use Rattle.opening_found.specs.Found.{headerVerdictOf};
 use sector::VERSION;
 use sector::bytes;
 use sector::states;
 
+// What opening makes of a header: an erased page, a page that opens, or the first rule that refused it.
+pub enum HeaderVerdict {
+    Blank,
+    Opens,
+    WrongPageState,
+    WrongVersion,
+    WrongHeaderCrc,
+}
+
 // An erased page, a page that opens, or the first rule that refused its header.
-pub(crate) fn header_verdict(image: &[u8]) -> HeaderVerdict
+pub fn header_verdict(image: &[u8]) -> HeaderVerdict
     requires { ⌜ length (now image) ≡ sectorSize ⌝ }
     ensures { λ r. ⌜ r ≡ headerVerdictOf (now (image .entry)) ⌝ }
 {

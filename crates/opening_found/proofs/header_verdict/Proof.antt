@@ -1,4 +1,4 @@
--- `header::header_verdict` meets its contract: each `return` is the first rule of the header that decides.
+-- `opening_found::header_verdict` meets its contract: each `return` is the first rule of the header that decides.
 use mathlib.Core.Path.{_≡_, refl, sym, ap, _∙_}
 use mathlib.Core.Bool.{true, false, not, cond}
 use lib.Dec.{eqb}
@@ -8,9 +8,9 @@ use Rattle.sector.specs.declared.PageState.{PageState}
 use Rattle.sector.specs.declared.PageState.the-variants.{Uninitialized, Active, Full, Freeing, Corrupt, Invalid}
 use Rattle.sector.specs.Header.{stateOfWord, headerCrc, isUninitialized, isInUse}
 use Rattle.sector.specs.Layout.{stateWord, versionOf, storedHeaderCrc}
-use Rattle.opening.specs.Opening.{Opens, WrongVersion, WrongHeaderCrc, headerVerdictOf}
-use Rattle.opening.proofs.header.header_verdict.Statement.{statement}
-use Rattle.opening.proofs.header.header_verdict.Tie as tie
+use Rattle.opening_found.specs.Found.{Opens, WrongVersion, WrongHeaderCrc, headerVerdictOf}
+use Rattle.opening_found.proofs.header_verdict.Statement.{statement}
+use Rattle.opening_found.proofs.header_verdict.Tie as tie
 
 state : (c : tie.After-state-of-word) → stateOfWord (stateWord (c .before .before .before .args .image .now)) ≡ c .state-of-word .result
 state c = sym (c .state-of-word .ensures ∙ ap stateOfWord (c .before .number-at .ensures))
