@@ -7,7 +7,7 @@ use native.Mathlib.Nat.{le-of-suc-le-suc, not-suc-le-zero, le-refl, add-zero}
 use native.Mathlib.Numerals.{add-one}
 use native.Mathlib.Omega.{arith}
 use lib.Dec.{eqb}
-use lib.ListN.{length, take, drop, set, replicate, length-drop, length-set, length-replicate, length-append, take-append-drop, drop-of-length-le}
+use lib.ListN.{length, take, drop, set, replicate, length-drop, length-set, length-replicate, length-append, take-append-drop}
 use lib.Seq.{take-add, drop-drop, take-at, take-set-le, drop-set-add, take-all}
 use Rattle.flash.proofs.Laws.{Bytes}
 use Rattle.page.specs.declared.Listed.{Listed}
@@ -23,13 +23,13 @@ use Rattle.sector.proofs.Marks.{marked, take-marked, drop-marked, marked-erased
 use Rattle.opening.specs.declared.Listing.{Listing}
 use Rattle.opening_reading.specs.declared.Verdict.{Verdict}
 use Rattle.opening_reading.specs.declared.Verdict.the-variants.{NotAnItem, RefusedEntry, RefusedItem, Kept}
-use Rattle.opening_reading.specs.Reading.{isUsable, usable, verdictAt, stepsOver, markOf, markBehind, walk, withKept, keptFrom}
+use Rattle.opening_reading.specs.Reading.{isUsable, usable, stepsOver, markOf, markBehind, walk, keptFrom}
 use Rattle.opening_marks.specs.Marks.{HasStates}
 use Rattle.opening.specs.Opening.{isRefusedItem, refusedHeaders, listedItems}
 use Rattle.opening.specs.Steps.{markedBy, listingOf, withListed, listedBy}
-use Rattle.opening_reading.proofs.Entries.{states-from, entries-from, entries-left}
+use Rattle.opening_reading.proofs.Entries.{states-from, states-past}
 use Rattle.opening_reading.proofs.Midway.{both-written}
-use Rattle.opening.proofs.Steps.{walk-skip, refused-headers-skip, kept-skip, steps-over-le, kept-usable}
+use Rattle.opening_reading.proofs.Steps.{kept-usable, verdictOf, states-behind, steps-inside, steps-states, steps-entries, here, after, walk-from, kept-from}
 
 -- ---- lists done so far
 
@@ -47,81 +47,6 @@ take-replicate : {A : Type 0} (k n : ℕ) (x : A) → k ≤ n → take k (replic
 take-replicate zero n x h = refl
 take-replicate (suc k) zero x h = absurd (not-suc-le-zero h)
 take-replicate (suc k) (suc n) x h = ap (λ (rest : List _). x ∷ rest) (take-replicate k n x (le-of-suc-le-suc h))
-
--- ---- the verdict at an index
-
-abbrev pub verdictOf : List ℕ → List ℕ → ℕ → Verdict
-verdictOf image map i = verdictAt (stateAt map i) (entryAt image i) (drop (i + 1) (statesOf map)) (drop (i + 1) (entriesOf image))
-
-module _ (image map : List ℕ) (i : ℕ) (long : length map ≡ 32) (inside : i < 126) where
-  states-behind : length (drop (i + 1) (statesOf map)) ≡ 125 - i
-  states-behind =
-      let all = length-statesOf map long in
-      length-drop (i + 1) (statesOf map) ∙ omega arith
-
-  -- the walk does not leave the page
-  pub steps-inside : i + stepsOver (verdictOf image map i) < 126
-  steps-inside =
-      let steps = steps-over-le (stateAt map i) (entryAt image i) (drop (i + 1) (statesOf map)) (drop (i + 1) (entriesOf image)) in
-      let left = entries-left image i in
-      omega arith
-
-  steps-states : stepsOver (verdictOf image map i) ≤ length (drop (i + 1) (statesOf map))
-  steps-states = rw states-behind (omega (arith, steps-inside))
-
-  steps-entries : stepsOver (verdictOf image map i) ≤ length (drop (i + 1) (entriesOf image))
-  steps-entries = rw (entries-left image i) (omega (arith, steps-inside))
-
-  -- ---- one step of each list, from what is left at this index
-
-  -- what is read of the states and entries from here on begins with these
-  here : {A : Type 0} (reads : List EntryMapState → List (List ℕ) → A)
-      → reads (drop i (statesOf map)) (drop i (entriesOf image))
-      ≡ reads (stateAt map i ∷ drop (i + 1) (statesOf map)) (entryAt image i ∷ drop (i + 1) (entriesOf image))
-  here reads = ap₂ reads (states-from map i long inside) (entries-from image i inside)
-
-  -- and goes on after those that are stepped over
-  after : {A : Type 0} (reads : List EntryMapState → List (List ℕ) → A) (k : ℕ)
-      → reads (drop k (drop (i + 1) (statesOf map))) (drop k (drop (i + 1) (entriesOf image)))
-      ≡ reads (drop (i + 1 + k) (statesOf map)) (drop (i + 1 + k) (entriesOf image))
-  after reads k = ap₂ reads (drop-drop k (i + 1) (statesOf map)) (drop-drop k (i + 1) (entriesOf image))
-
-  walk-from :
-      let v = verdictOf image map i in
-      walk zero Erased (drop i (statesOf map)) (drop i (entriesOf image))
-      ≡ (markOf (stateAt map i) v ∷ replicate (stepsOver v) (markBehind v))
-      ++ walk zero Erased (drop (i + 1 + stepsOver v) (statesOf map)) (drop (i + 1 + stepsOver v) (entriesOf image))
-  walk-from =
-      let v = verdictOf image map i in
-      here (walk zero Erased)
-      ∙ ap (λ (rest : List EntryMapState). markOf (stateAt map i) v ∷ rest)
-      (walk-skip (stepsOver v) (markBehind v) (drop (i + 1) (statesOf map)) (drop (i + 1) (entriesOf image)) steps-states steps-entries
-      ∙ after (λ ss es. replicate (stepsOver v) (markBehind v) ++ walk zero Erased ss es) (stepsOver v))
-
-  headers-from :
-      let v = verdictOf image map i in
-      refusedHeaders zero (drop i (statesOf map)) (drop i (entriesOf image))
-      ≡ (isRefusedItem v ∷ replicate (stepsOver v) false)
-      ++ refusedHeaders zero (drop (i + 1 + stepsOver v) (statesOf map)) (drop (i + 1 + stepsOver v) (entriesOf image))
-  headers-from =
-      let v = verdictOf image map i in
-      here (refusedHeaders zero)
-      ∙ ap (λ (rest : List Bool). isRefusedItem v ∷ rest)
-      (refused-headers-skip (stepsOver v) (drop (i + 1) (statesOf map)) (drop (i + 1) (entriesOf image)) steps-states steps-entries
-      ∙ after (λ ss es. replicate (stepsOver v) false ++ refusedHeaders zero ss es) (stepsOver v))
-
-  kept-from :
-      let v = verdictOf image map i in
-      keptFrom zero i (drop i (statesOf map)) (drop i (entriesOf image))
-      ≡ withKept v i (entryAt image i) (drop (i + 1) (entriesOf image))
-      (keptFrom zero (i + 1 + stepsOver v) (drop (i + 1 + stepsOver v) (statesOf map)) (drop (i + 1 + stepsOver v) (entriesOf image)))
-  kept-from =
-      let v = verdictOf image map i in
-      let entries = drop (i + 1) (entriesOf image) in
-      here (keptFrom zero i)
-      ∙ ap (withKept v i (entryAt image i) entries)
-      (kept-skip (stepsOver v) (suc i) (drop (i + 1) (statesOf map)) entries steps-states steps-entries
-      ∙ rw (← add-one i) (after (keptFrom zero (i + 1 + stepsOver v)) (stepsOver v)))
 
 -- ---- the map
 
@@ -154,17 +79,11 @@ pub record MarkedTo (image map now : List ℕ) (i : ℕ) : Type 0 where
 pub marked-start : (image map : List ℕ) → length map ≡ 32 → Bytes map → MarkedTo image map map 0
 marked-start image map long b = record { marks = refl; left = refl; spare = refl; bytes = b; whole = long }
 
--- at the end of the page nothing is left
-none-left : (map : List ℕ) (i : ℕ) → length map ≡ 32 → i ≡ 126 → drop i (statesOf map) ≡ []
-none-left map i long e =
-    let short : length (statesOf map) ≤ i = omega (arith, length-statesOf map long) in
-    drop-of-length-le (statesOf map) short
-
 pub marked-end : (image map now : List ℕ) (i : ℕ) → length map ≡ 32 → i ≡ 126 → MarkedTo image map now i
     → HasStates map (walk zero Erased (statesOf map) (entriesOf image)) now
 marked-end image map now i long e to =
     let fits : length (statesOf now) ≤ i = omega (arith, length-statesOf now (to .whole)) in
-    let none = none-left map i long e in
+    let none = states-past map i long (omega arith) in
     let all = take-all i (statesOf now) fits in
     record { states-are = sym (append-nil (statesOf now)) ∙ (rw (none, all) at (to .marks)); spare = to .spare }
 
@@ -232,6 +151,27 @@ module _ (image map now : List ℕ) (i : ℕ) (long : length map ≡ 32) (inside
 
 -- ---- refused headers
 
+refused-headers-skip : (k : ℕ) (states : List EntryMapState) (entries : List (List ℕ)) → k ≤ length states → k ≤ length entries
+    → refusedHeaders k states entries ≡ replicate k false ++ refusedHeaders zero (drop k states) (drop k entries)
+refused-headers-skip zero states entries h g = refl
+refused-headers-skip (suc k) [] entries h g = absurd (not-suc-le-zero h)
+refused-headers-skip (suc k) (s ∷ states) [] h g = absurd (not-suc-le-zero g)
+refused-headers-skip (suc k) (s ∷ states) (entry ∷ entries) h g =
+    ap (λ (rest : List Bool). false ∷ rest) (refused-headers-skip k states entries (le-of-suc-le-suc h) (le-of-suc-le-suc g))
+
+headers-from : (image map : List ℕ) (i : ℕ) → length map ≡ 32 → i < 126
+    → let v = verdictOf image map i in
+    refusedHeaders zero (drop i (statesOf map)) (drop i (entriesOf image))
+    ≡ (isRefusedItem v ∷ replicate (stepsOver v) false)
+    ++ refusedHeaders zero (drop (i + 1 + stepsOver v) (statesOf map)) (drop (i + 1 + stepsOver v) (entriesOf image))
+headers-from image map i long inside =
+    let v = verdictOf image map i in
+    here image map i long inside (refusedHeaders zero)
+    ∙ ap (λ (rest : List Bool). isRefusedItem v ∷ rest)
+    (refused-headers-skip (stepsOver v) (drop (i + 1) (statesOf map)) (drop (i + 1) (entriesOf image))
+    (steps-states image map i long inside) (steps-entries image map i long inside)
+    ∙ after image map i long inside (λ ss es. replicate (stepsOver v) false ++ refusedHeaders zero ss es) (stepsOver v))
+
 pub record HeadsTo (image map : List ℕ) (heads : List Bool) (i : ℕ) : Type 0 where
   pub marks : take i heads ++ refusedHeaders zero (drop i (statesOf map)) (drop i (entriesOf image))
       ≡ refusedHeaders zero (statesOf map) (entriesOf image)
@@ -245,7 +185,7 @@ pub heads-end : (image map : List ℕ) (heads : List Bool) (i : ℕ) → length 
     → heads ≡ refusedHeaders zero (statesOf map) (entriesOf image)
 heads-end image map heads i long e to =
     let whole = to .whole in
-    let none = none-left map i long e in
+    let none = states-past map i long (omega arith) in
     let all = take-all i heads (omega arith) in
     sym (append-nil heads) ∙ (rw (none, all) at (to .marks))
 
@@ -295,7 +235,7 @@ pub listed-end : (image map : List ℕ) (listing : Listing) (i : ℕ) → length
     → listing ≡ listingOf (listedItems (keptFrom zero zero (statesOf map) (entriesOf image)))
 listed-end image map listing i long e to =
     let all = listedItems (keptFrom zero zero (statesOf map) (entriesOf image)) in
-    let none : drop (listing .len) all ≡ [] = to .left ∙ rw (none-left map i long e) in
+    let none : drop (listing .len) all ≡ [] = to .left ∙ rw (states-past map i long (omega arith)) in
     to .places ∙ ap listingOf (sym (append-nil (take (listing .len) all)) ∙ (rw none at (take-append-drop (listing .len) all)))
 
 listing-more : (all rest : List Listed) (listing : Listing) (place : Listed) → listing .len < 126

@@ -5,7 +5,7 @@ use Prim.Native.Nat.{ℕ, zero, suc, _+_, _-_, _*_, _<_, _≤_}
 use native.Mathlib.Nat.{le-of-suc-le-suc, not-suc-le-zero, sub-zero}
 use native.Mathlib.Numerals.{add-one}
 use native.Mathlib.Omega.{arith}
-use lib.ListN.{length, take, drop, length-drop}
+use lib.ListN.{length, take, drop, length-drop, drop-of-length-le}
 use lib.Seq.{drop-cons, drop-drop, take-add, take-take}
 use Rattle.sector.specs.Layout.{entrySize, itemsOffset, entryAddress, entryAt, chunks, entriesOf}
 use Rattle.sector.specs.declared.EntryMapState.the-variants.{Empty}
@@ -63,6 +63,12 @@ pub entries-from : (image : List ℕ) (i : ℕ) → i < 126 → drop i (entriesO
 entries-from image i inside =
     let fits : i < length (entriesOf image) = rw (length-entriesOf image) inside in
     rw (drop-cons (entriesOf image) i [] fits, getD-entriesOf image i inside, add-one i)
+
+-- nothing past the last entry
+pub states-past : (map : List ℕ) (i : ℕ) → length map ≡ 32 → 126 ≤ i → drop i (statesOf map) ≡ []
+states-past map i long past =
+    let short : length (statesOf map) ≤ i = omega (arith, length-statesOf map long) in
+    drop-of-length-le (statesOf map) short
 
 -- as many lie after entry i
 pub entries-left : (image : List ℕ) (i : ℕ) → length (drop (i + 1) (entriesOf image)) ≡ 125 - i

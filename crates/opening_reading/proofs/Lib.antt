@@ -1,3 +1,4 @@
 pub mod Verdicts
 pub mod Midway
 pub mod Entries
+pub mod Steps

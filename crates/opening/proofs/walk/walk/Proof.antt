@@ -6,7 +6,8 @@ use borrow.Author.Needs.{needs}
 use lib.ListN.{length}
 use Rattle.opening_reading.specs.Reading.{stepsOver}
 use Rattle.opening_marks.proofs.Arrays.{bytes-of-array}
-use Rattle.opening.proofs.Progress.{verdictOf, steps-inside, MarkedTo, marked-start, marked-step, marked-end, HeadsTo, heads-start, heads-step, heads-end, ListedTo, listed-start, listed-step, listed-end}
+use Rattle.opening_reading.proofs.Steps.{verdictOf, steps-inside}
+use Rattle.opening.proofs.Progress.{MarkedTo, marked-start, marked-step, marked-end, HeadsTo, heads-start, heads-step, heads-end, ListedTo, listed-start, listed-step, listed-end}
 use Rattle.opening.proofs.walk.walk.Statement.{statement}
 use Rattle.opening.proofs.walk.walk.Tie as tie
 
