@@ -7,7 +7,7 @@ use sector::ITEMS_OFFSET;
 pub(crate) const FILLED: u8 = 0x77;
 
 // An item's header in namespace 1. The CRC is made over a type byte of its own; the payload's is 0, and so wrong: no leaf checks it.
-fn header(over: u8, kind: u8, span: u8, size: u8) -> [u8; 32] {
+pub(crate) fn header(over: u8, kind: u8, span: u8, size: u8) -> [u8; 32] {
     let data = [size, 0, 0xFF, 0xFF, 0, 0, 0, 0];
     let mut entry = sector_item::item_bytes(1, over, span, 255, [0x6B; 16], data);
     entry[1] = kind;

@@ -1,0 +1,2 @@
+pub mod Going
+mod Examples
