@@ -1,5 +1,5 @@
 -- `open_stopped` meets its contract: the length is tested first, then each verdict on the header answers as `answerFor` and programs as `planFor`.
-use mathlib.Core.Path.{_≡_, refl, sym, ap, _∙_}
+use mathlib.Core.Path.{_≡_, refl, sym, _∙_}
 use mathlib.Core.List.{[]}
 use borrow.Author.Needs.{needs}
 use borrow.Author.Tests.{eq-eqb, ne-eqb, le-ltb}
