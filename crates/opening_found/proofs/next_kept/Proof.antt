@@ -41,7 +41,9 @@ passed c = go (c .before .verdict-at .result) refl
     go NotAnItem e = noItem
     go (RefusedEntry reason) e = badEntry reason
     go (RefusedItem reason k) e = badItem reason k
-    go (Kept k) e = elim (rw e at (c .match .keys2)) [ inl first ↦ absurd (omega arith) | inr later ↦ elim later [ inl second ↦ absurd (omega arith) | inr third ↦ absurd (omega arith) ] ]
+    go (Kept k) e =
+        elim (rw e at (c .match .keys2))
+        [ inl first ↦ absurd (omega arith) | inr later ↦ elim later [ inl second ↦ absurd (omega arith) | inr third ↦ absurd (omega arith) ] ]
 
 add-t8 : tie.Need-add-t8 Inv-loop μ-loop
 add-t8 c =
