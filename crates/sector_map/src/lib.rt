@@ -1,17 +1,23 @@
 // The entry map: two bits an entry, entry i at bit 2 * (i mod 4) of map byte i / 4.
 ghost use mathlib.Core.Path.{_≡_};
-ghost use mathlib.Core.Bool.{cond};
-ghost use mathlib.Core.List.{[], _∷_};
 ghost use Prim.Native.Nat.{_+_, _/_, _%_, _^_, _<_, _≤_};
-ghost use lib.Dec.{eqb};
+ghost use lib.ListN.{length};
 ghost use Rattle.sector.specs.declared.EntryMapState.the-variants.{Written};
 ghost use Rattle.sector.specs.Map.{bitsOf, stateOfBits, sameState, stateAt, unpack, entryState, statistics, markMask, markRange};
-ghost use Rattle.sector_map.specs.Counting.{inAll, counted};
+ghost use Rattle.sector.specs.Layout.{number, field};
+ghost use Rattle.sector_map.specs.Words.{wordStates, wordStatistics};
 use sector::Answer;
 use sector::ENTRIES_PER_PAGE;
 use sector::EntryMapState;
 use sector::StateAnswer;
 use sector::Statistics;
+use sector::bytes;
+
+// One bit for each of the 32 entries of a map word, at the place of its lower bit.
+const MASK: u64 = 0x5555_5555_5555_5555;
+
+// The same for the last word, which has 30 entries.
+const LAST_MASK: u64 = 0x0555_5555_5555_5555;
 
 // The two bits of a state.
 pub fn bits_of(state: EntryMapState) -> u8
@@ -78,55 +84,57 @@ pub fn get_entry_state(map: [u8; 32], index: usize) -> StateAnswer
     }
 }
 
-// One where the two bits are those.
-fn one_if(bits: u8, those: u8) -> u32
-    ensures { λ r. ⌜ (r ≡ cond (eqb those bits) 1 0) × (r ≤ 1) ⌝ }
+// The eight map bytes from an offset on as one word, which holds their 32 entries.
+fn word_at(map: &[u8], offset: usize) -> u64
+    requires { ⌜ offset + 8 ≤ length (now map) ⌝ }
+    ensures word { λ r. ⌜ r ≡ number (field offset 8 (now (map .entry))) ⌝ }
+    ensures entries { λ r. ⌜ wordStates 32 r ≡ unpack (field offset 8 (now (map .entry))) ⌝ }
 {
-    if bits == those { 1 } else { 0 }
+    let low = bytes::number_at(map, offset);
+    let high = bytes::number_at(map, offset + 4);
+    low as u64 + 0x1_0000_0000 * (high as u64)
 }
 
-// The counts with one more entry, by its two bits.
-fn with_entry(counts: Statistics, bits: u8) -> Statistics
-    requires { ⌜ (bits < 4) × (inAll counts < 126) ⌝ }
-    ensures { λ r. ⌜ r ≡ counted counts (stateOfBits bits ∷ []) ⌝ }
+// How many entries of a word are in each state: for each state the word is masked, and the ones are counted.
+fn word_statistics(word: u64, mask: u64) -> Statistics
+    ensures counts { λ r. ⌜ r ≡ wordStatistics mask word ⌝ }
+    ensures small { λ r. ⌜ (r .empty ≤ 64) × (r .written ≤ 64) × (r .erased ≤ 64) × (r .illegal ≤ 64) ⌝ }
 {
+    let low = word & mask;
+    let high = (word >> 1) & mask;
     Statistics {
-        empty: counts.empty + one_if(bits, 0b11),
-        written: counts.written + one_if(bits, 0b10),
-        erased: counts.erased + one_if(bits, 0b00),
-        illegal: counts.illegal + one_if(bits, 0b01),
+        empty: u64::count_ones(high & low),
+        written: u64::count_ones(high & (low ^ mask)),
+        erased: u64::count_ones((high ^ mask) & (low ^ mask)),
+        illegal: u64::count_ones((high ^ mask) & low),
     }
 }
 
-// The counts with the four entries of a map byte.
-fn with_byte(counts: Statistics, byte: u8) -> Statistics
-    requires { ⌜ inAll counts ≤ 122 ⌝ }
-    ensures { λ r. ⌜ r ≡ counted counts (unpack (byte ∷ [])) ⌝ }
+// The counts of a map's four words together.
+fn sum(first: u32, second: u32, third: u32, last: u32) -> u32
+    requires { ⌜ (first ≤ 64) × (second ≤ 64) × (third ≤ 64) × (last ≤ 64) ⌝ }
+    ensures { λ r. ⌜ r ≡ first + second + third + last ⌝ }
 {
-    let one = with_entry(counts, byte % 4);
-    let two = with_entry(one, byte / 4 % 4);
-    let three = with_entry(two, byte / 16 % 4);
-    with_entry(three, byte / 64 % 4)
+    first + second + third + last
 }
 
 // How many entries of the page are in each state (`ThinPage::get_entry_statistics`): the four counts add up to
 // 126, by the law `statistics-sum`.
 //
-// A byte at a time, and no branch in it, so that the loop runs over many bytes at once. The last byte has two entries.
+// A word of 32 entries at a time. The last word has 30: its top four bits belong to no entry, and its mask leaves them out.
 pub fn get_entry_statistics(map: [u8; 32]) -> Statistics
     ensures { λ r. ⌜ r ≡ statistics map ⌝ }
 {
-    let mut counts = Statistics {
-        empty: 0,
-        written: 0,
-        erased: 0,
-        illegal: 0,
-    };
-    for i in 0..31usize {
-        counts = with_byte(counts, map[i]);
+    let first = word_statistics(word_at(&map, 0), MASK);
+    let second = word_statistics(word_at(&map, 8), MASK);
+    let third = word_statistics(word_at(&map, 16), MASK);
+    let last = word_statistics(word_at(&map, 24), LAST_MASK);
+    Statistics {
+        empty: sum(first.empty, second.empty, third.empty, last.empty),
+        written: sum(first.written, second.written, third.written, last.written),
+        erased: sum(first.erased, second.erased, third.erased, last.erased),
+        illegal: sum(first.illegal, second.illegal, third.illegal, last.illegal),
     }
-    let last = map[31];
-    with_entry(with_entry(counts, last % 4), last / 4 % 4)
 }
 
 // A byte of ones but for a state's bits at one of its four pairs.

@@ -1,5 +1,6 @@
 // The entry map: the state of an entry at each value of its byte, and statistics.
 ghost use Prim.Native.Nat.{_<_, _≤_};
+use sector::EntryMapState;
 
 // 1 where an entry has these bits, in a map that is all 0xFF but for the entry's byte.
 fn one_if_bits(index: usize, byte: u8, bits: u8) -> u64
@@ -71,6 +72,26 @@ fn print_statistics(byte: u8, last: u8) {
     );
 }
 
+// One Written entry among Empty ones: the entries at the borders of the words that are counted.
+fn print_alone(index: usize)
+    requires { ⌜ index < 126 ⌝ }
+{
+    let map = sector_map::mark_range([0xFFu8; 32], EntryMapState::Written, index, 1);
+    let given = sector_map::get_entry_statistics(map);
+    test_print::line(
+        b"statistics, entry # alone Written: empty #, written #, erased #, illegal #\n",
+        [
+            index as u64,
+            given.empty as u64,
+            given.written as u64,
+            given.erased as u64,
+            given.illegal as u64,
+            0,
+            0,
+        ],
+    );
+}
+
 pub(crate) fn print_all() {
     print_counts(0);
     print_counts(1);
@@ -88,4 +109,16 @@ pub(crate) fn print_all() {
     print_statistics(0x55, 0x55);
     print_statistics(0xE4, 0xE4);
     print_statistics(0xFF, 0x0F);
+    print_statistics(0xFF, 0xAF);
+    print_statistics(0xFF, 0x5F);
+    print_statistics(0xAA, 0x0A);
+    print_statistics(0xAA, 0xFA);
+    print_alone(0);
+    print_alone(31);
+    print_alone(32);
+    print_alone(63);
+    print_alone(64);
+    print_alone(95);
+    print_alone(96);
+    print_alone(125);
 }
