@@ -11,7 +11,7 @@ use crate::random::Random;
 type Group = fn(&mut Runner, &mut Random);
 
 /// Each group with its name, and how much of it is recorded: of so many cases, the first so many.
-const GROUPS: [(&str, Group, (u64, u64)); 14] = [
+const GROUPS: [(&str, Group, (u64, u64)); 15] = [
     ("every type byte", bytes::every_type_byte, (1, 1)),
     ("CRCs and hashes", bytes::sums, (1, 1009)),
     ("maps", bytes::maps, (1, 1009)),
@@ -26,6 +26,7 @@ const GROUPS: [(&str, Group, (u64, u64)); 14] = [
     ("copies out of damaged sectors", sectors::copies, (20, 12_007)),
     ("records that are only just fit", sectors::records, (8, 30_011)),
     ("sequences", fills::sequences, (1, 1009)),
+    ("every state of every entry", bytes::every_state, (0, 1)),
 ];
 const RECORDED_OF_HISTORIES: (u64, u64) = (250, 250_007);
 

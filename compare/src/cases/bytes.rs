@@ -61,6 +61,32 @@ pub fn maps(runner: &mut Runner, random: &mut Random) {
     }
 }
 
+/// The two bits of each state.
+const STATES: [u8; 4] = [0b11, 0b10, 0b00, 0b01];
+
+/// Statistics of every entry alone in a state, among entries of each state; and of the four bits that belong to no entry, at each of their
+/// values.
+pub fn every_state(runner: &mut Runner, random: &mut Random) {
+    let mut case = Case::new(Call::Statistics);
+    for among in STATES {
+        for state in STATES {
+            for entry in 0..ENTRIES {
+                case.record.map = [among * 0b0101_0101; 32];
+                case.record.map[entry / 4] &= !(0b11 << (2 * (entry % 4)));
+                case.record.map[entry / 4] |= state << (2 * (entry % 4));
+                runner.check(&case, Stops::AtTheEnd);
+            }
+        }
+    }
+    for spare in 0..16 {
+        for _ in 0..1_000 {
+            case.record = draw_map(random);
+            case.record.map[31] = case.record.map[31] & 0x0F | spare << 4;
+            runner.check(&case, Stops::AtTheEnd);
+        }
+    }
+}
+
 /// Any map at all: these calls take no record.
 fn draw_map(random: &mut Random) -> Record {
     let mut record = draw_record(random, ENTRIES);
