@@ -1,6 +1,6 @@
 -- Words of the entry map (02, R-3): the states in a word, and the word masked for a state.
 --
--- In order: the states in a word; the mask of its entries; the bits that are left where an entry is in a state, and how many; the words of a map.
+-- In order: the states in a word; the mask of its entries; the bits that are left where an entry is in a state; how many there are of each state.
 -- An entry has two bits. A mask holds one bit for each entry, at the place of the lower one.
 use mathlib.Core.List.{List, [], _∷_}
 use Prim.Native.Nat.{ℕ, zero, suc, _+_, _*_, _/_, _%_}
