@@ -1,6 +1,7 @@
 -- Copy in (01, 'Copy in'): checks in order, plan, new record.
 --
--- Raw bytes are written, an unknown type byte included. A source image of another length is BadImage, before the record is looked at.
+-- Raw bytes are written. An entry of an unknown type does not load, so none is copied. A source image of another length is
+-- BadImage, before the record is looked at.
 use mathlib.Core.Bool.{_||_, not}
 use mathlib.Core.List.{List, [], _∷_}
 use Prim.Native.Nat.{ℕ, _+_, _*_}

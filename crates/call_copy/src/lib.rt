@@ -69,9 +69,8 @@ fn copy_refusal(image: &[u8], page: ThinPage, source: &[u8], index: usize) -> An
 
 // ---- the call
 
-// Copies an item from another sector (`ThinPage::copy_item_from`): its bytes, an unknown type byte included, go to next free
-// in one write, then its marks, and the state word where no entry is free then. It is stopped after `stop` units where it has
-// more.
+// Copies an item from another sector (`ThinPage::copy_item_from`): its bytes as they lie go to next free in one write, then
+// its marks, and the state word where no entry is free then. It is stopped after `stop` units where it has more.
 //
 // Refuses, in this order: an image or a source that is not 4,096 bytes (BadImage), BadRecord, WrongState unless Active, an
 // index over 125 (CorruptedData), an entry that does not load (KeyNotFound), a span of 0 or one that leaves the source

@@ -11,7 +11,6 @@ use Rattle.sector.specs.declared.Answer.the-variants.{Done, BadImage, KeyNotFou
 use Rattle.sector.specs.Answers.{Check, refusal, accepted}
 use Rattle.sector.specs.Item.{loads}
 use Rattle.sector.specs.Layout.{sectorSize, entriesPerPage, entrySize, entryAt}
-use Rattle.sector.specs.Types.{sanitized}
 use Rattle.call_load.specs.declared.Loaded.{Loaded}
 
 -- ---- raw read
@@ -38,7 +37,7 @@ rawEntry image i = loadedOr (entryChecks image i) (entryAt image i)
 
 -- ---- load
 
--- then entry all 0xFF, or CRC wrong
+-- then an entry that does not load: all 0xFF, of an unknown type, or its CRC wrong
 abbrev pub loadChecks : List ℕ → ℕ → List Check
 loadChecks image i =
     (not (eqb (length image) sectorSize), BadImage)
@@ -46,6 +45,6 @@ loadChecks image i =
     ∷ (not (loads (entryAt image i)), KeyNotFound)
     ∷ []
 
--- a type byte that is none of the thirteen comes as 0xFF
+-- the 32 bytes as they lie
 unfoldable pub loadItem : List ℕ → ℕ → Loaded
-loadItem image i = loadedOr (loadChecks image i) (sanitized (entryAt image i))
+loadItem image i = loadedOr (loadChecks image i) (entryAt image i)

@@ -5,14 +5,12 @@ use sector::ENTRY_SIZE;
 use sector::ITEMS_OFFSET;
 use sector::SECTOR_SIZE;
 use sector::answers;
-use sector::bytes;
 use sector::layout;
 ghost use mathlib.Core.Path.{_≡_};
 ghost use Prim.Native.Nat.{_+_, _*_, _<_};
 ghost use lib.ListN.{length};
 ghost use Rattle.sector.specs.Layout.{sectorSize, entriesPerPage, entryAt};
 ghost use Rattle.sector.specs.Item.{loads};
-ghost use Rattle.sector.specs.Types.{sanitized};
 ghost use Rattle.sector.specs.Answers.{refusal};
 ghost use Rattle.call_load.specs.Load.{entryChecks, rawEntry, loadItem, refusedItem};
 
@@ -63,11 +61,12 @@ pub fn read_raw_entry(image: &[u8], index: usize) -> Loaded
     }
 }
 
-// Whether an entry loads, of which the item is already made: not all 0xFF, and its CRC is right.
+// Whether an entry loads, of which the bytes are already read.
 //
-// It does what `sector_item::loads` does, and reads the image itself: a copy of the entry costs a third of a load.
+// It does what `sector_item::loads` does, and looks for bytes other than 0xFF in the image itself: in a copy of the
+// entry that costs a sixth of a load.
 fn loads_at(image: &[u8], index: usize, item: [u8; 32]) -> bool
-    requires { ⌜ (length (now image) ≡ sectorSize) × (index < entriesPerPage) × (item ≡ sanitized (entryAt (now image) index)) ⌝ }
+    requires { ⌜ (length (now image) ≡ sectorSize) × (index < entriesPerPage) × (item ≡ entryAt (now image) index) ⌝ }
     ensures { λ r. ⌜ r ≡ loads (entryAt (now (image .entry)) index) ⌝ }
 {
     let start = ITEMS_OFFSET + ENTRY_SIZE * index;
@@ -75,15 +74,15 @@ fn loads_at(image: &[u8], index: usize, item: [u8; 32]) -> bool
     if flash::all_ones(&image[start..end]) {
         return false;
     }
-    let crc = sector_item::item_crc(item);
-    crc == bytes::number_at(image, start + 4)
+    sector_types::is_known(item[1]) && sector_item::crc_right(item)
 }
 
-// The item whose header is an entry (`ThinPage::load_item`), its type byte made 0xFF where it is none of
-// the thirteen. The map is not consulted, so an erased item still loads.
+// The item whose header is an entry (`ThinPage::load_item`). The map is not consulted, so an erased item still
+// loads.
 //
 // Refuses an image that is not 4,096 bytes (BadImage), an index over 125 (CorruptedData), then an entry
-// that is all 0xFF or whose CRC is wrong (KeyNotFound). The Rust checks neither image nor index.
+// that is all 0xFF, of an unknown type, or whose CRC is wrong (KeyNotFound). The Rust checks neither image nor
+// index, and takes an unknown type byte as 0xFF.
 pub fn load_item(image: &[u8], index: usize) -> Loaded
     ensures { λ r. ⌜ r ≡ loadItem (now (image .entry)) index ⌝ }
 {
@@ -91,8 +90,7 @@ pub fn load_item(image: &[u8], index: usize) -> Loaded
     if !answers::is_done(answer) {
         return refused(answer);
     }
-    let mut item = layout::entry_at(image, index);
-    item[1] = sector_types::type_byte(item[1]);
+    let item = layout::entry_at(image, index);
     if !loads_at(image, index, item) {
         return refused(Answer::KeyNotFound);
     }

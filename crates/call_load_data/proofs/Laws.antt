@@ -6,28 +6,11 @@ use Prim.Native.Nat.{ℕ, _+_, _-_, _*_, _≤_, _<_}
 use native.Mathlib.Omega.{arith}
 use borrow.Author.Tests.{ltb-true, ltb-false, eqb-true, not-false}
 use lib.ListN.{length, take, drop, getD, length-append, length-take, length-drop}
-use lib.Seq.{drop-set-lt, getD-set-same, getD-set-other}
 use Rattle.sector.specs.declared.Answer.the-variants.{Done}
 use Rattle.sector.specs.Answers.{accepted}
-use Rattle.sector.specs.Layout.{sectorSize, entriesPerPage, entrySize, entryAddress, entryAt, spanOf, sizeOf, typeByteOf}
-use Rattle.sector.specs.Types.{sanitized, itemType, typeByte, type-byte}
+use Rattle.sector.specs.Layout.{sectorSize, entriesPerPage, entrySize, entryAddress, entryAt, spanOf, sizeOf}
 use Rattle.sector.proofs.Laws.{accepted-at}
-use Rattle.call_load_data.specs.Payload.{roundedUp, payloadChecks, dataChecks}
-
--- the payload's checks do not see that a type byte was made one of the thirteen
-pub payloadChecks-sanitized : (entry : List ℕ) (i room : ℕ) → 1 < length entry
-    → payloadChecks (sanitized entry) i room ≡ payloadChecks entry i room
-payloadChecks-sanitized entry i room h =
-    let byte = typeByteOf entry in
-    rw (
-      getD-set-same entry 1 (typeByte byte) 0 h,
-      type-byte (itemType byte),
-      getD-set-other entry 1 2 (typeByte byte) 0 (λ e. omega arith),
-      drop-set-lt 24 entry 1 (typeByte byte) (omega arith),
-    )
-
-pub sizeOf-sanitized : (entry : List ℕ) → sizeOf (sanitized entry) ≡ sizeOf entry
-sizeOf-sanitized entry = rw (drop-set-lt 24 entry 1 (typeByte (typeByteOf entry)) (omega arith))
+use Rattle.call_load_data.specs.Payload.{roundedUp, dataChecks}
 
 -- what passes all of load data's checks
 pub record DataFits (image : List ℕ) (i room : ℕ) : Type 0 where

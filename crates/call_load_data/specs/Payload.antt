@@ -9,7 +9,7 @@ use lib.ListN.{length, take, drop}
 use Rattle.sector.specs.declared.Answer.the-variants.{Done, ItemTypeMismatch, CorruptedData}
 use Rattle.sector.specs.Answers.{Check, refusal, accepted}
 use Rattle.sector.specs.Layout.{entriesPerPage, entrySize, entryAddress, entryAt, spanOf, sizeOf, typeByteOf}
-use Rattle.sector.specs.Types.{itemType, typeByte, hasPayload}
+use Rattle.sector.specs.Types.{itemType, hasPayload}
 use Rattle.call_load.specs.Load.{loadChecks}
 use Rattle.call_load_data.specs.declared.DataLoaded.{DataLoaded}
 
@@ -20,7 +20,7 @@ roundedUp size = (size + 3) / 4 * 4
 -- type not Sized, Blob or BlobData; span 0; index + span over 126; size over 32 * (span - 1); output shorter than the rounded size
 abbrev pub payloadChecks : List ℕ → ℕ → ℕ → List Check
 payloadChecks entry i room =
-    (not (hasPayload (itemType (typeByteOf entry))), ItemTypeMismatch (typeByte (typeByteOf entry)))
+    (not (hasPayload (itemType (typeByteOf entry))), ItemTypeMismatch (typeByteOf entry))
     ∷ (eqb (spanOf entry) 0, CorruptedData)
     ∷ (ltb entriesPerPage (i + spanOf entry), CorruptedData)
     ∷ (ltb (entrySize * (spanOf entry - 1)) (sizeOf entry), CorruptedData)

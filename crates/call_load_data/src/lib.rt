@@ -32,7 +32,7 @@ fn payload_refusal(entry: [u8; 32], index: usize, room: usize) -> Answer
     ensures { λ r. ⌜ r ≡ refusal (payloadChecks entry index room) ⌝ }
 {
     if !sector_types::kind_of(entry[1]).payload {
-        return Answer::ItemTypeMismatch(sector_types::type_byte(entry[1]));
+        return Answer::ItemTypeMismatch(entry[1]);
     }
     let span = entry[2] as usize;
     if span == 0 {
@@ -66,7 +66,7 @@ fn copy_to(part: &[u8], output: &mut [u8])
 // The payload's CRC is not checked.
 //
 // Refuses what `load_item` refuses; a type that is not Sized, Blob or BlobData (ItemTypeMismatch, with the
-// type byte as loaded); then, each as CorruptedData, a span of 0, a span that leaves the page, a size that
+// type byte); then, each as CorruptedData, a span of 0, a span that leaves the page, a size that
 // the span does not hold, and an output shorter than the rounded size. The Rust takes the item from its
 // caller, and so loads nothing here.
 pub fn load_referenced_data_into(image: &[u8], index: usize, output: &mut [u8]) -> DataLoaded

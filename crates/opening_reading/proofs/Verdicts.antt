@@ -15,9 +15,9 @@ use borrow.Author.Tests.{eqb-false, ltb-false, le-ltb, not-false}
 use Rattle.flash.specs.Flash.{allOnes}
 use Rattle.sector.specs.declared.EntryMapState.{EntryMapState}
 use Rattle.sector.specs.declared.EntryMapState.the-variants.{Written}
-use Rattle.sector.specs.Item.{crcRight, loads}
+use Rattle.sector.specs.Item.{knownType, crcRight, loads}
 use Rattle.sector.specs.Layout.{spanOf}
-use Rattle.opening_reading.specs.Reading.{Reason, AllOnes, CrcWrong, SpanOffPage, WrongSpan, CoveredNotUsable, firstRule, covered, wrongSpan, headerRefusal, payloadRefusal, usable, RefusedItem, Kept, itemVerdict, verdictAt}
+use Rattle.opening_reading.specs.Reading.{Reason, AllOnes, UnknownType, CrcWrong, SpanOffPage, WrongSpan, CoveredNotUsable, firstRule, covered, wrongSpan, headerRefusal, payloadRefusal, usable, RefusedItem, Kept, itemVerdict, verdictAt}
 
 -- the states of some entries, and their bytes
 abbrev pub States : Type 0
@@ -28,29 +28,35 @@ Entries = List (List ℕ)
 
 -- ---- the rules of the header
 
-no-rule : (a b c d e : Bool) → firstRule ((a, AllOnes) ∷ (b, CrcWrong) ∷ (c || d, SpanOffPage) ∷ (e, WrongSpan) ∷ []) ≡ none
-    → (a ≡ false) × (b ≡ false) × (c ≡ false) × (d ≡ false) × (e ≡ false)
-no-rule true b c d e h = (cc, cc, cc, cc, cc)
-no-rule false true c d e h = (cc, cc, cc, cc, cc)
-no-rule false false true d e h = (cc, cc, cc, cc, cc)
-no-rule false false false true e h = (cc, cc, cc, cc, cc)
-no-rule false false false false true h = (cc, cc, cc, cc, cc)
-no-rule false false false false false h = (refl, refl, refl, refl, refl)
+no-rule : (a b c d e f : Bool)
+    → firstRule ((a, AllOnes) ∷ (b, UnknownType) ∷ (c, CrcWrong) ∷ (d || e, SpanOffPage) ∷ (f, WrongSpan) ∷ []) ≡ none
+    → (a ≡ false) × (b ≡ false) × (c ≡ false) × (d ≡ false) × (e ≡ false) × (f ≡ false)
+no-rule true b c d e f h = (cc, cc, cc, cc, cc, cc)
+no-rule false true c d e f h = (cc, cc, cc, cc, cc, cc)
+no-rule false false true d e f h = (cc, cc, cc, cc, cc, cc)
+no-rule false false false true e f h = (cc, cc, cc, cc, cc, cc)
+no-rule false false false false true f h = (cc, cc, cc, cc, cc, cc)
+no-rule false false false false false true h = (cc, cc, cc, cc, cc, cc)
+no-rule false false false false false false h = (refl, refl, refl, refl, refl, refl)
 
 -- none of the rules holds of a header that none refuses
 header-rules : (entry : List ℕ) (left : ℕ) → headerRefusal entry left ≡ none
-    → (allOnes entry ≡ false) × (not (crcRight entry) ≡ false) × (eqb (spanOf entry) 0 ≡ false) × (ltb left (covered entry) ≡ false) × (wrongSpan entry ≡ false)
+    → (allOnes entry ≡ false) × (not (knownType entry) ≡ false) × (not (crcRight entry) ≡ false)
+    × (eqb (spanOf entry) 0 ≡ false) × (ltb left (covered entry) ≡ false) × (wrongSpan entry ≡ false)
 unfolding headerRefusal
-header-rules entry left h = no-rule (allOnes entry) (not (crcRight entry)) (eqb (spanOf entry) 0) (ltb left (covered entry)) (wrongSpan entry) h
+header-rules entry left h =
+    no-rule (allOnes entry) (not (knownType entry)) (not (crcRight entry)) (eqb (spanOf entry) 0) (ltb left (covered entry)) (wrongSpan entry) h
 
 -- it loads
 pub header-loads : (entry : List ℕ) (left : ℕ) → headerRefusal entry left ≡ none → loads entry ≡ true
 unfolding loads
-header-loads entry left h = let rules = header-rules entry left h in rw (rules .0, not-false (crcRight entry) (rules .1))
+header-loads entry left h =
+    let rules = header-rules entry left h in
+    rw (rules .0, not-false (knownType entry) (rules .1), not-false (crcRight entry) (rules .2))
 
 -- it has a span
 pub header-span : (entry : List ℕ) (left : ℕ) → headerRefusal entry left ≡ none → 1 ≤ spanOf entry
-header-span entry left h = by (spanOf entry) (eqb-false (spanOf entry) 0 (header-rules entry left h .2))
+header-span entry left h = by (spanOf entry) (eqb-false (spanOf entry) 0 (header-rules entry left h .3))
   where
     by : (span : ℕ) → (span ≡ 0 → ⊥) → 1 ≤ span
     by zero f = absurd (f refl)
@@ -58,7 +64,7 @@ header-span entry left h = by (spanOf entry) (eqb-false (spanOf entry) 0 (header
 
 -- and the span is on the page
 pub header-fits : (entry : List ℕ) (left : ℕ) → headerRefusal entry left ≡ none → covered entry ≤ left
-header-fits entry left h = ltb-false left (covered entry) (header-rules entry left h .3)
+header-fits entry left h = ltb-false left (covered entry) (header-rules entry left h .4)
 
 header-same : (entry : List ℕ) (left other : ℕ) → covered entry ≤ left → covered entry ≤ other → headerRefusal entry other ≡ headerRefusal entry left
 unfolding headerRefusal

@@ -14,11 +14,11 @@ use Rattle.crc.specs.Crc.{crc32}
 use Rattle.flash.specs.Flash.{allOnes}
 use Rattle.sector.specs.declared.EntryMapState.{EntryMapState}
 use Rattle.sector.specs.declared.EntryMapState.the-variants.{Empty, Written, Erased, Illegal}
-use Rattle.sector.specs.Item.{crcStart, crcRight}
+use Rattle.sector.specs.Item.{crcStart, knownType, crcRight}
 use Rattle.sector.specs.Layout.{entrySize, typeByteOf, spanOf, sizeOf, storedPayloadCrc}
 use Rattle.sector.specs.Types.{itemType, hasPayload}
 pub use Rattle.opening_reading.specs.declared.Reason.{Reason}
-pub use Rattle.opening_reading.specs.declared.Reason.the-variants.{AllOnes, CrcWrong, SpanOffPage, WrongSpan, SizeTooBig, PayloadCrcWrong, CoveredNotUsable}
+pub use Rattle.opening_reading.specs.declared.Reason.the-variants.{AllOnes, UnknownType, CrcWrong, SpanOffPage, WrongSpan, SizeTooBig, PayloadCrcWrong, CoveredNotUsable}
 pub use Rattle.opening_reading.specs.declared.Verdict.{Verdict}
 pub use Rattle.opening_reading.specs.declared.Verdict.the-variants.{NotAnItem, RefusedEntry, RefusedItem, Kept}
 
@@ -45,11 +45,12 @@ spanOffPage entry left = eqb (spanOf entry) 0 || ltb left (covered entry)
 abbrev pub wrongSpan : List ℕ → Bool
 wrongSpan entry = not (isPayload entry) && not (eqb (spanOf entry) 1)
 
--- why no item begins here: it does not load (all 0xFF, or its CRC is wrong), or its span cannot be
+-- why no item begins here: it does not load (all 0xFF, its type unknown, or its CRC wrong), or its span cannot be
 unfoldable pub headerRefusal : List ℕ → ℕ → Option Reason
 headerRefusal entry left =
     firstRule
     ((allOnes entry, AllOnes)
+    ∷ (not (knownType entry), UnknownType)
     ∷ (not (crcRight entry), CrcWrong)
     ∷ (spanOffPage entry left, SpanOffPage)
     ∷ (wrongSpan entry, WrongSpan)

@@ -16,6 +16,7 @@ use sector::layout;
 // The rule of the reading that refused an entry or an item.
 pub enum Reason {
     AllOnes,
+    UnknownType,
     CrcWrong,
     SpanOffPage,
     WrongSpan,
@@ -99,7 +100,10 @@ fn written_verdict(image: &[u8], map: [u8; 32], index: usize) -> Verdict
     if flash::all_ones(&entry) {
         return Verdict::RefusedEntry(Reason::AllOnes);
     }
-    if !sector_item::loads(entry) {
+    if !sector_types::is_known(entry[1]) {
+        return Verdict::RefusedEntry(Reason::UnknownType);
+    }
+    if !sector_item::crc_right(entry) {
         return Verdict::RefusedEntry(Reason::CrcWrong);
     }
     let span = entry[2] as usize;

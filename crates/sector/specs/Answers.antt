@@ -25,7 +25,7 @@ numberOf CorruptedData = 9
 numberOf NotWritten = 10
 numberOf Stopped = 11
 
--- the type byte as loaded, of 8; 0 of any other
+-- the type byte, of 8; 0 of any other
 abbrev pub carriedByte : Answer → ℕ
 carriedByte Done = 0
 carriedByte BadImage = 0

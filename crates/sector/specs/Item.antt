@@ -6,8 +6,8 @@ use lib.Dec.{eqb}
 use lib.ListN.{take, drop, length}
 use Rattle.crc.specs.Crc.{crc32}
 use Rattle.flash.specs.Flash.{allOnes}
-use Rattle.sector.specs.Layout.{littleEndian, storedCrc, keyOf, namespaceOf, chunkOf}
-use Rattle.sector.specs.Types.{sanitized}
+use Rattle.sector.specs.Layout.{littleEndian, storedCrc, keyOf, namespaceOf, typeByteOf, chunkOf}
+use Rattle.sector.specs.Types.{isKnown}
 
 -- the value that every CRC of a page starts from
 abbrev pub crcStart : ℕ
@@ -25,13 +25,17 @@ hashOf namespace key chunk = crc32 crcStart (namespace ∷ key ++ (chunk ∷ [])
 abbrev pub hashOfItem : List ℕ → ℕ
 hashOfItem entry = hashOf (namespaceOf entry) (keyOf entry) (chunkOf entry)
 
--- the CRC of an entry is right, its type byte made one of the thirteen first
-abbrev pub crcRight : List ℕ → Bool
-crcRight entry = eqb (itemCrc (sanitized entry)) (storedCrc entry)
+-- its type byte is one of the thirteen
+abbrev pub knownType : List ℕ → Bool
+knownType entry = isKnown (typeByteOf entry)
 
--- an entry that loads: not all 0xFF, and its CRC is right
+-- the CRC of an entry is right, over its bytes as they lie
+abbrev pub crcRight : List ℕ → Bool
+crcRight entry = eqb (itemCrc entry) (storedCrc entry)
+
+-- an entry that loads: not all 0xFF, of a known type, and its CRC is right
 unfoldable pub loads : List ℕ → Bool
-loads entry = not (allOnes entry) && crcRight entry
+loads entry = not (allOnes entry) && (knownType entry && crcRight entry)
 
 -- the 32 bytes of a new item: namespace, type, span, chunk, CRC, key, data
 unfoldable pub itemBytes : ℕ → ℕ → ℕ → ℕ → List ℕ → List ℕ → List ℕ

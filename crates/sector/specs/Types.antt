@@ -6,13 +6,11 @@ use mathlib.Core.Bool.{Bool, true, false, cond}
 use mathlib.Core.List.{List, [], _∷_}
 use Prim.Native.Nat.{ℕ}
 use lib.Dec.{eqb}
-use lib.ListN.{set}
 use Rattle.sector.specs.declared.Answer.the-variants.{Done, ItemTypeMismatch}
 use Rattle.sector.specs.declared.ItemType.{ItemType}
 use Rattle.sector.specs.declared.ItemType.the-variants.{U8, I8, U16, I16, U32, I32, U64, I64, Sized, Blob, BlobData, BlobIndex, Any}
 use Rattle.sector.specs.declared.Kind.{Kind}
 use Rattle.sector.specs.declared.WidthAnswer.{WidthAnswer}
-use Rattle.sector.specs.Layout.{typeByteOf}
 
 abbrev pub byteOf : ItemType → ℕ
 byteOf U8 = 0x01
@@ -63,9 +61,9 @@ type-byte Any = refl
 abbrev pub typeByte : ℕ → ℕ
 typeByte byte = byteOf (itemType byte)
 
--- an entry with its type byte made one of the thirteen
-abbrev pub sanitized : List ℕ → List ℕ
-sanitized entry = set entry 1 (typeByte (typeByteOf entry))
+-- one of the thirteen: it stays as it is
+abbrev pub isKnown : ℕ → Bool
+isKnown byte = eqb (typeByte byte) byte
 
 -- a primitive's width; 0 of other types
 abbrev pub widthOf : ItemType → ℕ

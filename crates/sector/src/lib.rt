@@ -97,7 +97,7 @@ pub enum Answer {
     PageFull,
     // The entry is all 0xFF, or its CRC is wrong.
     KeyNotFound,
-    // Data or width was asked of another type; with the type byte as loaded.
+    // Data or width was asked of another type; with the type byte, 0xFF for one that is none of the thirteen.
     ItemTypeMismatch(u8),
     // An index, a span, a size or an image that cannot be.
     CorruptedData,

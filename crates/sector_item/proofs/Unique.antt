@@ -2,6 +2,8 @@
 use Rattle.sector.proofs.Unique.{OneResult, unique}
 use Rattle.sector_item.proofs.item_crc.Kinds as item-crc-kinds
 use Rattle.sector_item.proofs.item_crc.Reads as item-crc
+use Rattle.sector_item.proofs.crc_right.Kinds as crc-right-kinds
+use Rattle.sector_item.proofs.crc_right.Reads as crc-right
 use Rattle.sector_item.proofs.loads.Kinds as loads-kinds
 use Rattle.sector_item.proofs.loads.Reads as loads
 use Rattle.sector_item.proofs.item_bytes.Kinds as item-bytes-kinds
@@ -11,6 +13,9 @@ use Rattle.sector_item.proofs.sized_data.Reads as sized-data
 
 pub item-crc-unique : OneResult 0 item-crc-kinds.ps item-crc-kinds.r item-crc.Learnt
 item-crc-unique κs args x y ex ey p q = unique p q
+
+pub crc-right-unique : OneResult 0 crc-right-kinds.ps crc-right-kinds.r crc-right.Learnt
+crc-right-unique κs args x y ex ey p q = unique p q
 
 pub loads-unique : OneResult 0 loads-kinds.ps loads-kinds.r loads.Learnt
 loads-unique κs args x y ex ey p q = unique p q

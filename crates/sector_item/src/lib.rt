@@ -1,6 +1,6 @@
 // Items (raw.rs `Item`): the CRC of a header entry, whether it loads, and the bytes of a new one.
 ghost use mathlib.Core.Path.{_≡_};
-ghost use Rattle.sector.specs.Item.{itemCrc, loads, itemBytes, sizedData};
+ghost use Rattle.sector.specs.Item.{itemCrc, crcRight, loads, itemBytes, sizedData};
 use sector::CRC_START;
 use sector::bytes;
 
@@ -16,18 +16,25 @@ pub fn item_crc(entry: [u8; 32]) -> u32
     crc::crc32(CRC_START, &covered)
 }
 
-// Whether an entry loads (the checks of `ThinPage::load_item`): it is not all 0xFF, and its CRC is right, made
-// over a type byte that is one of the thirteen.
+// Whether the CRC that an entry stores is the one that it should carry.
+pub fn crc_right(entry: [u8; 32]) -> bool
+    ensures { λ r. ⌜ r ≡ crcRight entry ⌝ }
+{
+    let crc = item_crc(entry);
+    crc == bytes::number_at(&entry, 4)
+}
+
+// Whether an entry loads (the checks of `ThinPage::load_item`): it is not all 0xFF, its type byte is one of the
+// thirteen, and its CRC is right.
+//
+// The Rust takes any other type byte as 0xFF and makes the CRC over that, so it loads an entry that was sealed so.
 pub fn loads(entry: [u8; 32]) -> bool
     ensures { λ r. ⌜ r ≡ loads entry ⌝ }
 {
     if flash::all_ones(&entry) {
         return false;
     }
-    let mut item = entry;
-    item[1] = sector_types::type_byte(item[1]);
-    let crc = item_crc(item);
-    crc == bytes::number_at(&entry, 4)
+    sector_types::is_known(entry[1]) && crc_right(entry)
 }
 
 // The 32 bytes of a new item (those that `ThinPage::write_item` writes): namespace, type, span, chunk, CRC, key

@@ -1,6 +1,6 @@
 // Item types (raw.rs `ItemType`): what a type byte decides.
 ghost use mathlib.Core.Path.{_≡_};
-ghost use Rattle.sector.specs.Types.{byteOf, kindOf, typeByte, primitiveWidth};
+ghost use Rattle.sector.specs.Types.{byteOf, kindOf, typeByte, isKnown, primitiveWidth};
 use sector::Answer;
 use sector::ItemType;
 use sector::Kind;
@@ -67,10 +67,17 @@ pub fn type_byte(byte: u8) -> u8
     byte_of(named)
 }
 
+// Whether a byte is one of the thirteen. The Rust does not ask: `load_item` takes any other byte as 0xFF.
+pub fn is_known(byte: u8) -> bool
+    ensures { λ r. ⌜ r ≡ isKnown byte ⌝ }
+{
+    type_byte(byte) == byte
+}
+
 // A primitive's width: 1, 2, 4 or 8 (`ItemType::get_primitive_bytes_width`).
 //
-// Any other type is ItemTypeMismatch, with the byte as a load gives it: 0xFF for one that is none of the
-// thirteen. The Rust is handed the type and not its byte.
+// Any other type is ItemTypeMismatch, with its byte: 0xFF for one that is none of the thirteen. The Rust is
+// handed the type and not its byte.
 pub fn get_primitive_bytes_width(byte: u8) -> WidthAnswer
     ensures { λ r. ⌜ r ≡ primitiveWidth byte ⌝ }
 {

@@ -57,13 +57,14 @@ fn print_copies_on() {
     copy(0, 0, 0x21, 0x21, 3, 0, 0xFC, 126, 31);
     copy(0, 0, 0xFF, 0x05, 1, 0, 0xFE, 0, 0);
     copy(0, 0, 0x05, 0x05, 1, 0, 0xFE, 0, 0);
+    copy(0, 0, 0xFF, 0xFF, 1, 0, 0xFE, 0, 0);
     appends::print_entry(
-        b"copy, type 0x05 with a CRC over 0xff",
+        b"copy, type 0xff",
         Call::Copy {
             rest: 0,
             place: 0,
             made: 0xFF,
-            kind: 0x05,
+            kind: 0xFF,
             span: 1,
             index: 0,
         },

@@ -16,7 +16,6 @@ use Rattle.sector.specs.declared.Answer.the-variants.{Done}
 use Rattle.sector.specs.Answers.{accepted}
 use Rattle.sector.specs.Item.{loads}
 use Rattle.sector.specs.Layout.{entryAddress, entryAt, entriesOf, spanOf, sizeOf}
-use Rattle.sector.specs.Types.{sanitized}
 use Rattle.sector.proofs.Laws.{length-chunks, length-entriesOf}
 use Rattle.call_load.specs.Load.{loadItem}
 use Rattle.call_load_data.specs.Payload.{roundedUp, dataChecks, dataAnswer, dataOutput}
@@ -75,7 +74,7 @@ module _ {index : ℕ} {group : Entries} (image : List ℕ) (size : length image
   loads-header : loads (found .header) ≡ true
   loads-header = header-loads (found .header) k (found .whole .header)
 
-  loads-kept : loadItem image index ≡ record { answer = Done; item = sanitized (headerOf group) }
+  loads-kept : loadItem image index ≡ record { answer = Done; item = headerOf group }
   unfolding loadItem
   loads-kept = rw (ap headerOf (found .header-first), eq-eqb (length image) 4096 size, lt-ltb index 126 inside, entry-is, loads-header)
 

@@ -17,7 +17,7 @@ use Rattle.crc.proofs.Laws.{crc-lt}
 use Rattle.flash.specs.Flash.{allOnes, isOnes}
 use Rattle.sector.specs.declared.ItemType.{ItemType}
 use Rattle.sector.specs.declared.ItemType.the-variants.{U8, I8, U16, I16, U32, I32, U64, I64, Sized, Blob, BlobData, BlobIndex, Any}
-use Rattle.sector.specs.Item.{crcStart, itemCrc, crcRight, itemBytes, sizedData}
+use Rattle.sector.specs.Item.{crcStart, itemCrc, knownType, crcRight, itemBytes, sizedData}
 use Rattle.sector.specs.Layout.{number, sizeOf, storedPayloadCrc}
 use Rattle.sector.specs.Types.{byteOf, knownTypes, typeAmong, itemType, typeByte, hasPayload}
 use Rattle.sector.proofs.Laws.{number-littleEndian, length-chunks}
@@ -74,12 +74,17 @@ single-no-payload Any h = refl
 -- ---- the fields of a new item's bytes
 
 module _ (namespace kind span chunk : ℕ) (key bytes : List ℕ) where
+  -- its type byte is the one asked for
+  new-known : typeByte kind ≡ kind → knownType (itemBytes namespace kind span chunk key bytes) ≡ true
+  unfolding itemBytes
+  new-known e = eq-eqb (typeByte kind) kind e
+
   -- its CRC is the one that it stores
-  new-crc : typeByte kind ≡ kind → crcRight (itemBytes namespace kind span chunk key bytes) ≡ true
+  new-crc : crcRight (itemBytes namespace kind span chunk key bytes) ≡ true
   unfolding itemBytes itemCrc
-  new-crc e =
-      rw e
-      (eq-eqb _ _ (sym (number-littleEndian 4 (crc32 crcStart (namespace ∷ kind ∷ span ∷ chunk ∷ key ++ bytes)) (crc-lt crcStart (namespace ∷ kind ∷ span ∷ chunk ∷ key ++ bytes)))))
+  new-crc =
+      let covered = namespace ∷ kind ∷ span ∷ chunk ∷ key ++ bytes in
+      eq-eqb _ _ (sym (number-littleEndian 4 (crc32 crcStart covered) (crc-lt crcStart covered)))
 
   -- it is not all 0xFF, since its type byte is not
   new-not-blank : (kind ≡ 0xFF → ⊥) → allOnes (itemBytes namespace kind span chunk key bytes) ≡ false
@@ -87,10 +92,10 @@ module _ (namespace kind span chunk : ℕ) (key bytes : List ℕ) where
   new-not-blank e = rw (ne-eqb kind 0xFF e) (and-false (isOnes namespace))
 
 -- a header that passes each rule
-header-stands : (entry : List ℕ) (left : ℕ) → allOnes entry ≡ false → crcRight entry ≡ true → spanOffPage entry left ≡ false → wrongSpan entry ≡ false
-    → headerRefusal entry left ≡ none
+header-stands : (entry : List ℕ) (left : ℕ) → allOnes entry ≡ false → knownType entry ≡ true → crcRight entry ≡ true
+    → spanOffPage entry left ≡ false → wrongSpan entry ≡ false → headerRefusal entry left ≡ none
 unfolding headerRefusal
-header-stands entry left ones crc off wrong = rw (ones, crc, off, wrong)
+header-stands entry left ones known crc off wrong = rw (ones, known, crc, off, wrong)
 
 -- a payload that passes each rule
 payload-stands : (entry : List ℕ) (entries : Entries) → isPayload entry ≡ true → sizeOf entry ≤ 32 * covered entry
@@ -108,7 +113,8 @@ single-whole request h rest =
       header =
           header-stands (singleBytes request) (length rest)
           (new-not-blank (request .namespace) (request .kind) 1 (request .chunk) (request .key) (request .bytes) (known-not-any isSingle refl (request .kind) h))
-          (new-crc (request .namespace) (request .kind) 1 (request .chunk) (request .key) (request .bytes) (known-byte isSingle refl (request .kind) h))
+          (new-known (request .namespace) (request .kind) 1 (request .chunk) (request .key) (request .bytes) (known-byte isSingle refl (request .kind) h))
+          (new-crc (request .namespace) (request .kind) 1 (request .chunk) (request .key) (request .bytes))
           (unfold itemBytes in (le-ltb (length rest) 0 (omega arith)))
           (unfold itemBytes in (and-false (not (hasPayload (itemType (request .kind))))));
       span = unfold itemBytes in refl;
@@ -181,7 +187,8 @@ module _ (request : Variable) (payload : List ℕ) (asked : VariableRequest requ
         header =
             header-stands (variableHeader request payload) (length (entries ++ rest))
             (new-not-blank (request .namespace) (request .kind) span (request .chunk) (request .key) (sizedData payload) (known-not-any hasPayload refl (request .kind) typed))
-            (new-crc (request .namespace) (request .kind) span (request .chunk) (request .key) (sizedData payload) (known-byte hasPayload refl (request .kind) typed))
+            (new-known (request .namespace) (request .kind) span (request .chunk) (request .key) (sizedData payload) (known-byte hasPayload refl (request .kind) typed))
+            (new-crc (request .namespace) (request .kind) span (request .chunk) (request .key) (sizedData payload))
             (header-off (length (entries ++ rest)) (omega (arith, length-append entries rest, length-payload-entries)))
             header-right-span;
         span = header-covers;

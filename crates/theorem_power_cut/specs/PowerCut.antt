@@ -17,7 +17,7 @@ use Rattle.page.specs.Writing.{answered}
 use Rattle.sector.specs.declared.Answer.the-variants.{Done, CorruptedData, Stopped}
 use Rattle.sector.specs.Answers.{accepted}
 use Rattle.sector.specs.Layout.{entriesPerPage, mapOffset, itemsOffset, entryAt}
-use Rattle.sector.specs.Types.{itemType, hasPayload, sanitized}
+use Rattle.sector.specs.Types.{itemType, hasPayload}
 use Rattle.call_load.specs.Load.{loadItem}
 use Rattle.call_load_data.specs.Payload.{roundedUp, dataAnswer, dataOutput}
 use Rattle.call_append.specs.declared.Variable.{Variable}
@@ -42,7 +42,7 @@ abbrev pub LoadsWhatWasPut : Type 0
 LoadsWhatWasPut =
     (image : List ℕ) (page : Page) (items : List Item) → History image page items
     → (index : ℕ) (entries : List (List ℕ)) → List·Memᴰ (item index entries) items
-    → loadItem image index ≡ record { answer = Done; item = sanitized (headerOf entries) }
+    → loadItem image index ≡ record { answer = Done; item = headerOf entries }
 
 -- and data with its bytes, into any output that takes them
 abbrev pub LoadsData : Type 0

@@ -16,7 +16,7 @@ use Rattle.sector.specs.declared.PageState.the-variants.{Active, Full}
 use Rattle.sector.specs.Answers.{numberOf}
 use Rattle.sector.specs.Header.{wordOf}
 use Rattle.sector.specs.Item.{itemBytes}
-use Rattle.sector.specs.Layout.{sectorSize, entryAddress, entryAt, mapOf, littleEndian, typeByteOf, spanOf, sameBytes}
+use Rattle.sector.specs.Layout.{sectorSize, entryAddress, entryAt, mapOf, littleEndian, spanOf, sameBytes}
 use Rattle.sector.specs.Map.{bitsOf, stateAt, markRange}
 use Rattle.call_page_state.specs.Calls.{initialised, initialiseImage}
 use Rattle.call_append.specs.declared.Single.{Single}
@@ -162,9 +162,8 @@ readEdges =
     ∷ (holds (sameBytes (entryAt (purgeImage freshImage 125 9) 125) (replicate 32 0)), 1)
     ∷ (holds (sameBytes (take (entryAddress 125) (purgeImage freshImage 125 9)) (take (entryAddress 125) freshImage)), 1)
     ∷ (holds (sameBytes (purgeImage freshImage 126 9) freshImage), 1)
-    -- type byte 0x05 with its CRC made over 0xFF loads as Any; made over 0x05, KeyNotFound
-    ∷ (numberOf (loadItem (type05 0xFF) 0 .answer), 0)
-    ∷ (typeByteOf (loadItem (type05 0xFF) 0 .item), 0xFF)
+    -- type byte 0x05: KeyNotFound with its CRC made over 0xFF, as 02's R-5 has it; and made over 0x05
+    ∷ (numberOf (loadItem (type05 0xFF) 0 .answer), 7)
     ∷ (numberOf (loadItem (type05 0x05) 0 .answer), 7)
     ∷ []
 

@@ -3,12 +3,9 @@ use mathlib.Core.Path.{_≡_, refl, sym, _∙_}
 use mathlib.Core.Bool.{true}
 use mathlib.Core.List.{List}
 use Prim.Native.Nat.{ℕ}
-use lib.ListN.{set}
 use borrow.Author.Needs.{needs}
 use borrow.Author.Tests.{not-true, not-false}
 use Rattle.sector.specs.Answers.{accepted}
-use Rattle.sector.specs.Layout.{entryAt}
-use Rattle.sector.specs.Types.{sanitized}
 use Rattle.sector.proofs.Laws.{accepted-done}
 use Rattle.call_load.specs.Load.{entryChecks, loadItem}
 use Rattle.call_load.proofs.Laws.{entry-fits, loadedOr-refused, loadedOr-accepted}
@@ -29,12 +26,6 @@ module _ (c : tie.After-is-done) where
 enters : (c : tie.Else1) → accepted (entryChecks (image (c .before)) (index (c .before))) ≡ true
 enters c = checked (c .before) ∙ not-false _ (c .if1 .left)
 
--- the item is the entry with its type byte made one of the thirteen
-item-made : (c : tie.After-type-byte)
-    → let at = c .before .before .before in
-    set (c .before .entry-at .result) 1 (c .type-byte .result) ≡ sanitized (entryAt (image at) (index at))
-item-made c = rw (c .type-byte .ensures, c .before .entry-at .ensures)
-
 returns : tie.Need-returns
 unfolding loadItem
 returns c =
@@ -47,35 +38,37 @@ entry-at-requires c κs = entry-fits (image (c .before)) (index (c .before)) (en
 
 loads-at-requires : tie.Need-loads-at-requires
 loads-at-requires c κs =
-    let at = c .before .before .before in
-    let fits = entry-fits (image at) (index at) (enters (c .before .before)) in
-    (fits .0, fits .1, item-made c)
+    let at = c .before .before in
+    let fits = entry-fits (image at) (index at) (enters (c .before)) in
+    (fits .0, fits .1, c .entry-at .ensures)
 
 returns-2 : tie.Need-returns-2
 unfolding loadItem
 returns-2 c =
-    let made = c .before .before .before in
-    let at = made .before .before .before in
+    let tested = c .before .before in
+    let past = tested .before .before in
+    let at = past .before in
     rw (
-      loadedOr-accepted (entryChecks (image at) (index at)) _ _ (enters (made .before .before)),
-      sym (c .before .before .loads-at .ensures) ∙ not-true _ (c .before .if2 .taken),
+      loadedOr-accepted (entryChecks (image at) (index at)) _ _ (enters past),
+      sym (tested .loads-at .ensures) ∙ not-true _ (c .before .if2 .taken),
     )
     (c .refused2 .ensures)
 
 returns-3 : tie.Need-returns-3
 unfolding loadItem
 returns-3 c =
-    let made = c .before .before in
-    let at = made .before .before .before in
+    let tested = c .before in
+    let past = tested .before .before in
+    let at = past .before in
     rw (
-      loadedOr-accepted (entryChecks (image at) (index at)) _ _ (enters (made .before .before)),
-      sym (c .before .loads-at .ensures) ∙ not-false _ (c .if2 .left),
-      item-made made,
+      loadedOr-accepted (entryChecks (image at) (index at)) _ _ (enters past),
+      sym (tested .loads-at .ensures) ∙ not-false _ (c .if2 .left),
+      tested .before .entry-at .ensures,
     )
 
 pub load-item-spec : {M : Type 1} → statement M
 load-item-spec =
     tie.close
     (tie.spec
-    (λ c κs. search needs) (λ c κs. search needs) (λ c κs. search needs) returns entry-at-requires (λ c. search needs)
-    (λ c κs. search needs) (λ c. search needs) loads-at-requires (λ c κs. search needs) returns-2 returns-3)
+    (λ c κs. search needs) (λ c κs. search needs) (λ c κs. search needs) returns entry-at-requires loads-at-requires
+    (λ c κs. search needs) returns-2 returns-3)

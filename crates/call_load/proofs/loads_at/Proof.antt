@@ -1,14 +1,14 @@
--- `call_load::loads_at` meets its contract: its part of the image is the entry, and there lies the CRC that is compared.
-use mathlib.Core.Path.{_≡_, sym, ap, ap₂, _∙_}
+-- `call_load::loads_at` meets its contract: its part of the image is the entry, and the bytes read are the entry's.
+use mathlib.Core.Path.{_≡_, sym, ap, _∙_}
+use mathlib.Core.Bool.{false}
+use mathlib.Core.List.{List}
 use Prim.Native.Nat.{ℕ, _+_, _-_}
 use native.Mathlib.Omega.{arith}
 use borrow.Author.Needs.{needs}
-use lib.Dec.{eqb}
 use lib.ListN.{take, drop}
 use Rattle.flash.specs.Flash.{allOnes}
-use Rattle.sector.specs.Item.{loads, itemCrc}
-use Rattle.sector.specs.Layout.{number, entryAddress, entryAt}
-use Rattle.sector.proofs.Laws.{field-entryAt}
+use Rattle.sector.specs.Item.{knownType, crcRight, loads}
+use Rattle.sector.specs.Layout.{entryAddress, entryAt}
 use Rattle.call_load.proofs.loads_at.Statement.{statement}
 use Rattle.call_load.proofs.loads_at.Tie as tie
 
@@ -22,6 +22,17 @@ asked c =
     let e : start + 32 - start ≡ 32 = omega arith in
     ap (λ (n : ℕ). allOnes (take n (drop start (args .image .now)))) (sym e) ∙ sym (c .all-ones .ensures)
 
+bytes-there : (c : tie.Else1)
+    → let args = c .before .before .before .before .args in
+    allOnes (entryAt (args .image .now) (args .index)) ≡ false
+bytes-there c = asked (c .before) ∙ c .if1 .left
+
+-- and of its type
+type-asked : (c : tie.After-is-known)
+    → let args = c .before .before .before .before .before .args in
+    knownType (entryAt (args .image .now) (args .index)) ≡ c .is-known .result
+type-asked c = sym (c .is-known .ensures ∙ ap (λ (entry : List ℕ). knownType entry) (c .before .before .before .before .before .pre .2))
+
 returns : tie.Need-returns
 unfolding loads
 returns c = rw (asked (c .before) ∙ c .if1 .taken)
@@ -29,16 +40,19 @@ returns c = rw (asked (c .before) ∙ c .if1 .taken)
 returns-2 : tie.Need-returns-2
 unfolding loads
 returns-2 c =
-    let past = c .before .before in
-    let args = past .before .before .before .before .args in
-    rw (asked (past .before) ∙ past .if1 .left)
-    (ap₂ eqb
-    (c .before .item-crc .ensures ∙ ap itemCrc (past .before .before .before .before .pre .2))
-    (c .number-at .ensures ∙ ap number (sym (field-entryAt (args .image .now) (args .index) 4 4 (omega arith)))))
+    let tested = c .before .before in
+    rw (bytes-there (tested .before), type-asked tested ∙ c .before .if2 .taken)
+    (c .crc-right .ensures ∙ ap (λ (entry : List ℕ). crcRight entry) (tested .before .before .before .before .before .pre .2))
+
+returns-3 : tie.Need-returns-3
+unfolding loads
+returns-3 c =
+    let tested = c .before in
+    rw (bytes-there (tested .before), type-asked tested ∙ c .if2 .left) (c .if2 .left)
 
 pub loads-at-spec : {M : Type 1} → statement M
 loads-at-spec =
     tie.close
     (tie.spec
     (λ c. search needs) (λ c. search needs) (λ c. search needs) (λ c. search needs) (λ c. search needs) (λ c. search needs)
-    (λ c κs. search needs) returns (λ c κs. search needs) (λ c. search needs) (λ c κs. search needs) returns-2)
+    (λ c κs. search needs) returns (λ c. search needs) (λ c κs. search needs) (λ c κs. search needs) returns-2 returns-3)

@@ -2,7 +2,7 @@
 use mathlib.Core.Path.{_≡_, refl, ap, ap₂, _∙_}
 use mathlib.Core.Bool.{true}
 use mathlib.Core.List.{List, _++_}
-use Prim.Native.Nat.{ℕ, _+_, _≤_, _<_}
+use Prim.Native.Nat.{ℕ, _+_, _≤_}
 use native.Mathlib.Omega.{arith}
 use borrow.Author.Needs.{needs}
 use borrow.Author.Tests.{not-true, not-false}
@@ -10,13 +10,12 @@ use lib.ListN.{length, take, drop}
 use Rattle.sector.specs.declared.Answer.{Answer}
 use Rattle.sector.specs.Answers.{Check, refusal, accepted}
 use Rattle.sector.specs.Layout.{entryAt, sizeOf}
-use Rattle.sector.specs.Types.{sanitized}
-use Rattle.sector.proofs.Laws.{accepted-append, refusal-append, refusal-accepted, length-entryAt, accepted-done}
+use Rattle.sector.proofs.Laws.{accepted-append, refusal-append, refusal-accepted, accepted-done}
 use Rattle.call_load_data.specs.declared.DataLoaded.{DataLoaded}
 use Rattle.call_load.specs.declared.Loaded.{Loaded}
 use Rattle.call_load_data.specs.Payload.{roundedUp, payloadChecks, dataChecks, dataAnswer, dataOutput}
 use Rattle.call_load.specs.Load.{loadChecks, loadItem}
-use Rattle.call_load_data.proofs.Laws.{payloadChecks-sanitized, sizeOf-sanitized, DataFits, data-fits, data-inside, length-part, part-copied}
+use Rattle.call_load_data.proofs.Laws.{DataFits, data-fits, data-inside, length-part, part-copied}
 use Rattle.call_load.proofs.Laws.{loadedOr-answer, loadedOr-item, load-fits}
 use Rattle.call_load_data.proofs.load_referenced_data_into.Statement.{statement}
 use Rattle.call_load_data.proofs.load_referenced_data_into.Tie as tie
@@ -38,7 +37,7 @@ module _ (c : tie.After-is-done) where
   unfolding loadItem
   answered =
       ap (λ (r : Loaded). r .answer) (c .before .load-item .ensures)
-      ∙ loadedOr-answer (loadChecks image index) (sanitized entry)
+      ∙ loadedOr-answer (loadChecks image index) entry
 
   -- the answer's number tells whether the item loads
   checked : accepted (loadChecks image index) ≡ c .is-done .result
@@ -48,11 +47,11 @@ module _ (c : tie.Else1) where
   loads : accepted (loadChecks (image (c .before)) (index (c .before))) ≡ true
   loads = checked (c .before) ∙ not-false _ (c .if1 .left)
 
-  item-loaded : c .before .before .load-item .result .item ≡ sanitized (entry (c .before))
+  item-loaded : c .before .before .load-item .result .item ≡ entry (c .before)
   unfolding loadItem
   item-loaded =
       ap (λ (r : Loaded). r .item) (c .before .before .load-item .ensures)
-      ∙ loadedOr-item (loadChecks (image (c .before)) (index (c .before))) (sanitized (entry (c .before))) loads
+      ∙ loadedOr-item (loadChecks (image (c .before)) (index (c .before))) (entry (c .before)) loads
 
 module _ (c : tie.After-is-done2) where
   abbrev past : tie.Else1
@@ -66,11 +65,8 @@ module _ (c : tie.After-is-done2) where
 
   payload-answered : c .before .payload-refusal .result ≡ refusal checks
   payload-answered =
-      let fits = load-fits (image start) (index start) (loads past) in
-      let long : 1 < length (entry start) = omega (arith, length-entryAt (image start) (index start) (fits .0) (fits .1)) in
       c .before .payload-refusal .ensures
       ∙ ap (λ (e : List ℕ). refusal (payloadChecks e (index start) (room start))) (item-loaded past)
-      ∙ ap refusal (payloadChecks-sanitized (entry start) (index start) (room start) long)
 
   -- load's checks accept, so the payload's decide
   all-checked : accepted (dataChecks (image start) (index start) (room start)) ≡ c .is-done2 .result
@@ -93,7 +89,7 @@ module _ (c : tie.After-rounded-up) where
   size = sizeOf (entry (start checked2))
 
   sized : c .before .before .size-of .result ≡ size
-  sized = c .before .before .size-of .ensures .0 ∙ ap sizeOf (item-loaded (past checked2)) ∙ sizeOf-sanitized (entry (start checked2))
+  sized = c .before .before .size-of .ensures .0 ∙ ap sizeOf (item-loaded (past checked2))
 
   rounded : c .rounded-up .result ≡ roundedUp size
   rounded = c .rounded-up .ensures ∙ ap roundedUp sized

@@ -41,11 +41,8 @@ holds c =
 
 returns : tie.Need-returns
 returns c =
-    let called = c .before .before .before in
-    rw (
-      sym (payload-of (called .kind-of .result) (typeByteOf (called .before .args .t1)) (called .kind-of .ensures)) ∙ not-true _ (c .before .if1 .taken),
-      c .type-byte .ensures,
-    )
+    let called = c .before .before in
+    rw (sym (payload-of (called .kind-of .result) (typeByteOf (called .before .args .t1)) (called .kind-of .ensures)) ∙ not-true _ (c .if1 .taken))
 
 returns-2 : tie.Need-returns-2
 returns-2 c = rw (payload (c .before), eq-eqb _ _ (c .if2 .taken))
@@ -98,6 +95,6 @@ pub payload-refusal-spec : {M : Type 1} → statement M
 payload-refusal-spec =
     tie.close
     (tie.spec
-    (λ c. search needs) (λ c κs. search needs) (λ c. search needs) (λ c κs. search needs) returns (λ c. search needs)
+    (λ c. search needs) (λ c κs. search needs) (λ c. search needs) returns (λ c. search needs)
     (λ c. search needs) returns-2 (λ c. search needs) returns-3 (λ c κs. search needs) (λ c. search needs) (λ c. search needs)
     returns-4 (λ c κs. search needs) returns-5 returns-6)
