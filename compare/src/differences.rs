@@ -10,7 +10,7 @@ use crate::pages::*;
 use crate::random::Random;
 use crate::report::STATES;
 
-/// What is done, what 01 says of it, and the call.
+/// What is done, what 01 or 02 says of it, and the call.
 type Row = (&'static str, &'static str, Case);
 
 pub fn print() {
@@ -19,10 +19,11 @@ pub fn print() {
         ("States", states()),
         ("Indices and spans", spans()),
         ("Records", records()),
+        ("Unknown type bytes (02, R-5)", unknown_types()),
         ("Opening, against the Rust's `load_sector`", openings()),
     ];
     for (name, rows) in groups {
-        println!("### {name}\n\n| input | 01 | the Rust | ours |\n|---|---|---|---|");
+        println!("### {name}\n\n| input | asked | the Rust | ours |\n|---|---|---|---|");
         for (input, says, case) in rows {
             let (rusts, ours) = run(&case);
             println!("| {input} | {says} | {rusts} | {ours} |");
@@ -44,7 +45,7 @@ fn run(case: &Case) -> (String, String) {
     (text, told(case, &ours))
 }
 
-/// The answer, what the call changed in the record, and the bytes it changed outside the entries.
+/// The answer, what the call changed in the record, the bytes it changed outside the entries, and how many in them.
 fn told(case: &Case, outcome: &Outcome) -> String {
     let mut parts = vec![name_of_number(outcome.returned).to_string()];
     if outcome.returned == PANICKED {
@@ -63,6 +64,8 @@ fn told(case: &Case, outcome: &Outcome) -> String {
         let changed = (0..64).filter(|&at| outcome.image[at] != case.image[at]);
         let changed = changed.map(|at| format!("byte {at} {:02x} to {:02x}", case.image[at], outcome.image[at]));
         parts.extend(changed.take(4));
+        let in_entries = (64..4096).filter(|&at| outcome.image[at] != case.image[at]).count();
+        parts.extend((in_entries > 0).then(|| format!("{in_entries} bytes of entries")));
     }
     parts.join(", ")
 }
@@ -199,6 +202,32 @@ fn records() -> Vec<Row> {
                 case.record.list.push(Listed { hash: 0, index: 126 });
             }),
         ),
+    ]
+}
+
+/// Type byte 0x05, its CRC made over 0xFF, in entry 0 of a page.
+fn unknown_types() -> Vec<Row> {
+    const NOT_FOUND: &str = "KeyNotFound";
+    let mut item = plain(1, 1);
+    item[1] = 0x05;
+    seal_as_any(&mut item);
+    let at_0 = |call| {
+        with(page_of_singles(0), call, |case| {
+            put_item(&mut case.image, 0, &item);
+            case.output.resize(4, 0);
+        })
+    };
+    let copied = with(page_of_singles(0), Call::CopyIn, |case| put_item(&mut case.source, 0, &item));
+    let erased = with(at_0(Call::PurgeNamespace), Call::PurgeNamespace, |case| {
+        (case.namespace, case.record.erased) = (1, 1);
+        case.record.set_mark(0, ERASED);
+    });
+    vec![
+        ("load", NOT_FOUND, at_0(Call::Load)),
+        ("load data", NOT_FOUND, at_0(Call::LoadData)),
+        ("copy in, to a fresh page", NOT_FOUND, copied),
+        ("purge of its namespace, entry 0 Erased", "the entry stays", erased),
+        ("opening, entry 0 Written", "Erased: unknown type", page_to_open(&[WRITTEN], item, &[])),
     ]
 }
 

@@ -2,10 +2,10 @@
 
 use compare::case::{Call, Case, DONE, Outcome};
 use compare::flash::SECTOR;
-use compare::oracle::{Oracle, crc, loaded_item_crc};
+use compare::oracle::{Oracle, crc};
 use compare::record::*;
 
-use crate::domain::{ANY, BLOB_INDEX, PAYLOADS, PRIMITIVES};
+use crate::domain::{ANY, BLOB_INDEX, PAYLOADS, PRIMITIVES, is_known};
 use crate::random::Random;
 
 pub const ITEM: usize = 32;
@@ -35,24 +35,29 @@ pub fn put_item(image: &mut [u8], index: usize, item: &Item) {
     image[entry(index)..entry(index) + ITEM].copy_from_slice(item);
 }
 
-/// Gives the item the CRC with which it loads.
-pub fn seal(item: &mut Item) {
-    let crc = loaded_item_crc(item);
-    item[4..8].copy_from_slice(&crc.to_le_bytes());
-}
-
-/// Gives the item the CRC over its bytes as they stand: with an unknown type byte it does not load.
-pub fn seal_as_it_stands(item: &mut Item) {
+fn item_crc(item: &Item) -> [u8; 4] {
     let mut covered = [0; 28];
     covered[..4].copy_from_slice(&item[..4]);
     covered[4..].copy_from_slice(&item[8..]);
-    item[4..8].copy_from_slice(&crc(&covered).to_le_bytes());
+    crc(&covered).to_le_bytes()
 }
 
-/// Whether the entry's CRC is right.
+/// Gives the item the CRC over its bytes. It loads with it, where its type byte is known.
+pub fn seal(item: &mut Item) {
+    let crc = item_crc(item);
+    item[4..8].copy_from_slice(&crc);
+}
+
+/// Gives the item the CRC that it would have with the type byte 0xFF. An unknown type loads with it in the Rust.
+pub fn seal_as_any(item: &mut Item) {
+    let mut any = *item;
+    any[1] = ANY;
+    item[4..8].copy_from_slice(&item_crc(&any));
+}
+
 pub fn loads(image: &[u8], index: usize) -> bool {
     let item: &Item = image[entry(index)..].first_chunk().expect("an entry lies in its sector");
-    item[4..8] == loaded_item_crc(item).to_le_bytes()
+    is_known(item[1]) && item[4..8] == item_crc(item)
 }
 
 /// A type byte: often one of the thirteen.
@@ -65,7 +70,7 @@ pub fn draw_type(random: &mut Random) -> u8 {
     }
 }
 
-/// An item that loads, with a namespace from 0 to 3.
+/// An item whose CRC is right, with a namespace from 0 to 3.
 pub fn draw_item(random: &mut Random, type_byte: u8, span: u8) -> Item {
     let mut item = [0; ITEM];
     random.fill(&mut item);
@@ -177,13 +182,12 @@ fn draw_entries(random: &mut Random, image: &mut [u8; SECTOR], index: usize) -> 
     let wild = [0, room as u8, room as u8 + 1, 255, random.byte()];
     let span = if random.once_in(4) { random.pick(&wild) } else { 1 };
     let mut item = draw_item(random, type_byte, span);
-    match random.below(10) {
+    match random.below(9) {
         0 => item = [0xFF; ITEM],
         1 => random.fill(&mut item),
         2 => item = [0; ITEM],
-        3 => seal_as_it_stands(&mut item),
-        4 => item[random.below(ITEM)] ^= 1 << random.below(8),
-        5..8 => {
+        3 => item[random.below(ITEM)] ^= 1 << random.below(8),
+        4..7 => {
             let longest = random.pick(&[2, 6, ENTRIES]).min(room);
             let span = 1 + random.below(longest);
             return draw_payload(random, image, index, span);

@@ -8,7 +8,7 @@ use crate::domain::PAYLOADS;
 use crate::pages::*;
 use crate::random::Random;
 
-/// Items of every type byte, with a CRC over it as loaded, as it stands and wrong, at both ends of a page.
+/// Items of every type byte, with a CRC over it, over 0xFF and wrong, at both ends of a page.
 pub fn every_item(runner: &mut Runner, random: &mut Random) {
     let mut case = Case::new(Call::Load);
     random.fill(&mut case.image);
@@ -24,7 +24,7 @@ pub fn every_item(runner: &mut Runner, random: &mut Random) {
                     }
                     match seal_kind {
                         0 => seal(&mut item),
-                        1 => seal_as_it_stands(&mut item),
+                        1 => seal_as_any(&mut item),
                         _ => item[4] ^= 1,
                     }
                     put_item(&mut case.image, index, &item);
