@@ -48,7 +48,7 @@ extern "C" {
 #define NVS_VALUE_TOO_LONG 5
 /* the item spans more entries than are free */
 #define NVS_PAGE_FULL 6
-/* the entry is all 0xFF, or its CRC is wrong */
+/* the entry is all 0xFF, its type byte is none of the thirteen, or its CRC is wrong */
 #define NVS_KEY_NOT_FOUND 7
 /* data or width was asked of another type; the answer carries the type byte */
 #define NVS_ITEM_TYPE_MISMATCH 8
@@ -113,8 +113,8 @@ uint32_t nvs_width(uint8_t byte, uint8_t *answer, size_t answer_length);
 
 /* ---- reading */
 
-/* item: the entry, its type byte 0xFF where that is unknown.
-   BAD_IMAGE; CORRUPTED_DATA: the index is over 125; KEY_NOT_FOUND. The map is not asked: an erased item still loads */
+/* item: the entry's bytes as they are. BAD_IMAGE; CORRUPTED_DATA: the index is over 125; KEY_NOT_FOUND: the entry is all 0xFF,
+   its type byte is none of the thirteen, or its CRC is wrong. The map is not asked: an erased item still loads */
 uint32_t nvs_load(const uint8_t *image, size_t image_length, uint64_t index, uint8_t *answer, size_t answer_length);
 
 /* item: the entry's bytes as they are. BAD_IMAGE; CORRUPTED_DATA: the index is over 125 */

@@ -42,7 +42,7 @@ pub enum ItemType {
     Any = 0xFF,
 }
 
-/// An item as it was loaded: its CRC is right, and its type byte 0xFF where that is unknown.
+/// An item as it was loaded: its type byte is one of the thirteen, and its CRC is right.
 #[derive(Clone, Copy, Debug, PartialEq, Eq)]
 pub struct Item(pub(crate) [u8; ITEM_SIZE]);
 

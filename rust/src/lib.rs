@@ -124,7 +124,8 @@ pub fn width(byte: u8) -> Result<usize, Refusal> {
 
 /// The item at an index. The map is not asked: an erased item still loads.
 ///
-/// BadImage; CorruptedData: the index is over 125; KeyNotFound: the entry is all 0xFF, or its CRC is wrong.
+/// BadImage; CorruptedData: the index is over 125; KeyNotFound: the entry is all 0xFF, of an unknown type,
+/// or its CRC is wrong.
 pub fn load(image: &[u8], index: usize) -> Result<Item, Refusal> {
     let mut answer = [0; ANSWER_SIZE];
     let (bytes, length) = (answer.as_mut_ptr(), answer.len());

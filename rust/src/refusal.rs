@@ -19,7 +19,7 @@ pub enum Refusal {
     ValueTooLong,
     /// 6: the item spans more entries than are free.
     PageFull,
-    /// 7: the entry is all 0xFF, or its CRC is wrong.
+    /// 7: the entry is all 0xFF, of an unknown type, or its CRC is wrong.
     KeyNotFound,
     /// 8: data or width was asked of another type, which it carries.
     ItemTypeMismatch(u8),

@@ -128,6 +128,23 @@ fn types_and_widths() {
     assert_eq!((width(0x14), width(0x21)), (Ok(4), Err(Refusal::ItemTypeMismatch(0x21))));
 }
 
+/// The smallest page with an unknown type (docs/DIFFERENCES.md): an item of type Any is kept, and lost once its type byte lost bits.
+#[test]
+fn an_unknown_type_is_no_item() {
+    let (mut any, _) = fresh();
+    any[32] = 0xFE;
+    any[64..76].copy_from_slice(b"\x01\xFF\x01\xFF\x35\xB6\xF5\x98unit");
+    any[76..88].fill(0);
+    any[88] = 2;
+    let mut damaged = any;
+    damaged[65] = 0x05;
+    assert_eq!(load(&any, 0).unwrap().type_byte(), 0xFF);
+    assert_eq!((open(&mut any).unwrap().used(), any[32]), (1, 0xFE));
+    assert_eq!(load(&damaged, 0), Err(Refusal::KeyNotFound));
+    assert_eq!((open(&mut damaged).unwrap().used(), damaged[32]), (0, 0xFC));
+    assert_eq!(raw_read(&damaged, 0).unwrap()[1], 0x05);
+}
+
 #[test]
 fn every_refusal_once() {
     let (mut image, mut record) = fresh();
