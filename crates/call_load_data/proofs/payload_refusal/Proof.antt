@@ -1,14 +1,17 @@
 -- `call_load_data::payload_refusal` meets its contract: each `return` is the first of `payloadChecks` that refuses, or none.
 use mathlib.Core.Path.{_≡_, sym, ap, _∙_}
-use mathlib.Core.Bool.{true, false}
+use mathlib.Core.Bool.{true, false, cond}
 use Prim.Native.Nat.{ℕ, _+_, _-_, _*_}
 use native.Mathlib.Omega.{arith}
 use borrow.Author.Needs.{needs}
 use borrow.Author.Tests.{eq-eqb, ne-eqb, lt-ltb, le-ltb, not-true, not-false}
 use lib.Dec.{ltb}
+use Rattle.sector.specs.declared.Answer.the-variants.{Done, CorruptedData}
 use Rattle.sector.specs.declared.Kind.{Kind}
+use Rattle.sector.specs.Answers.{refusal}
 use Rattle.sector.specs.Layout.{entriesPerPage, entrySize, spanOf, sizeOf, typeByteOf}
 use Rattle.sector.specs.Types.{kindOf, itemType, hasPayload}
+use Rattle.call_load_data.specs.Payload.{roundedUp, payloadChecks}
 use Rattle.call_load_data.proofs.payload_refusal.Statement.{statement}
 use Rattle.call_load_data.proofs.payload_refusal.Tie as tie
 
@@ -31,13 +34,20 @@ spans c =
     let args = c .before .before .before .before .before .args in
     le-ltb entriesPerPage (args .index + spanOf (args .t1)) (omega arith)
 
--- past the fourth the size is within the span
-holds : (c : tie.Else4)
-    → let entry = c .before .before .before .before .before .before .before .args .t1 in
-    ltb (entrySize * (spanOf entry - 1)) (sizeOf entry) ≡ false
-holds c =
-    let entry = c .before .before .before .before .before .before .before .args .t1 in
-    le-ltb (entrySize * (spanOf entry - 1)) (sizeOf entry) (rw (← c .before .size-of .ensures .0) (c .if4 .left))
+-- past the fourth the size is within the span, and only the output's length can refuse
+held : (c : tie.Else4) (room : ℕ)
+    → let args = c .before .before .before .before .before .before .before .args in
+    refusal (payloadChecks (args .t1) (args .index) room) ≡ cond (ltb room (roundedUp (c .before .size-of .result))) CorruptedData Done
+held c room =
+    let spanned = c .before .before in
+    let entry = spanned .before .before .before .before .before .args .t1 in
+    rw (
+      payload (spanned .before .before),
+      ne-eqb _ _ (spanned .before .if2 .left),
+      spans spanned,
+      le-ltb (entrySize * (spanOf entry - 1)) (sizeOf entry) (rw (← c .before .size-of .ensures .0) (c .if4 .left)),
+      ← c .before .size-of .ensures .0,
+    )
 
 returns : tie.Need-returns
 returns c =
@@ -65,31 +75,11 @@ returns-4 c =
 
 returns-5 : tie.Need-returns-5
 returns-5 c =
-    let held = c .before .before in
-    let spanned = held .before .before in
-    rw (
-      payload (spanned .before .before),
-      ne-eqb _ _ (spanned .before .if2 .left),
-      spans spanned,
-      holds held,
-      ← held .before .size-of .ensures .0,
-      ← c .before .rounded-up .ensures,
-      lt-ltb _ _ (c .if5 .taken),
-    )
+    rw (held (c .before .before), ← c .before .rounded-up .ensures, lt-ltb _ _ (c .if5 .taken))
 
 returns-6 : tie.Need-returns-6
 returns-6 c =
-    let held = c .before .before in
-    let spanned = held .before .before in
-    rw (
-      payload (spanned .before .before),
-      ne-eqb _ _ (spanned .before .if2 .left),
-      spans spanned,
-      holds held,
-      ← held .before .size-of .ensures .0,
-      ← c .before .rounded-up .ensures,
-      le-ltb _ _ (c .if5 .left),
-    )
+    rw (held (c .before .before), ← c .before .rounded-up .ensures, le-ltb _ _ (c .if5 .left))
 
 pub payload-refusal-spec : {M : Type 1} → statement M
 payload-refusal-spec =
