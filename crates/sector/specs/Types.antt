@@ -61,7 +61,7 @@ type-byte Any = refl
 abbrev pub typeByte : ℕ → ℕ
 typeByte byte = byteOf (itemType byte)
 
--- one of the thirteen: it stays as it is
+-- one of the thirteen: `typeByte` leaves it as it is
 abbrev pub isKnown : ℕ → Bool
 isKnown byte = eqb (typeByte byte) byte
 

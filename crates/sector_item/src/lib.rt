@@ -27,7 +27,7 @@ pub fn crc_right(entry: [u8; 32]) -> bool
 // Whether an entry loads (the checks of `ThinPage::load_item`): it is not all 0xFF, its type byte is one of the
 // thirteen, and its CRC is right.
 //
-// The Rust takes any other type byte as 0xFF and makes the CRC over that, so it loads an entry that was sealed so.
+// The Rust takes any other type byte as 0xFF, so it loads an entry whose CRC was made over 0xFF in its place.
 pub fn loads(entry: [u8; 32]) -> bool
     ensures { λ r. ⌜ r ≡ loads entry ⌝ }
 {

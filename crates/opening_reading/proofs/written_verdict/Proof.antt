@@ -18,7 +18,7 @@ use Rattle.opening_reading.proofs.Entries.{entries-left}
 use Rattle.opening_reading.proofs.written_verdict.Statement.{statement}
 use Rattle.opening_reading.proofs.written_verdict.Tie as tie
 
--- the entry that was read
+-- the entry that was read, past each of the tests of loading
 abbrev read1 : tie.Else1 → tie.After-entry-at
 read1 c = c .before .before .before
 
