@@ -9,7 +9,7 @@ use lib.Dec.{ltb}
 use Rattle.sector.specs.declared.Answer.the-variants.{Done, CorruptedData}
 use Rattle.sector.specs.declared.Kind.{Kind}
 use Rattle.sector.specs.Answers.{refusal}
-use Rattle.sector.specs.Layout.{entriesPerPage, entrySize, spanOf, sizeOf, typeByteOf}
+use Rattle.sector.specs.Layout.{entriesPerPage, entrySize, spanOf, typeByteOf}
 use Rattle.sector.specs.Types.{kindOf, itemType, hasPayload}
 use Rattle.call_load_data.specs.Payload.{roundedUp, payloadChecks}
 use Rattle.call_load_data.proofs.payload_refusal.Statement.{statement}
@@ -34,20 +34,24 @@ spans c =
     let args = c .before .before .before .before .before .args in
     le-ltb entriesPerPage (args .index + spanOf (args .t1)) (omega arith)
 
+-- so only the size can refuse, by the span and then by the output's length
+sized : (c : tie.After-size-of) (room : ℕ)
+    → let args = c .before .before .before .before .before .before .args in
+    let size = c .size-of .result in
+    refusal (payloadChecks (args .t1) (args .index) room)
+    ≡ cond (ltb (entrySize * (spanOf (args .t1) - 1)) size) CorruptedData (cond (ltb room (roundedUp size)) CorruptedData Done)
+sized c room =
+    let spanned = c .before in
+    rw (payload (spanned .before .before), ne-eqb _ _ (spanned .before .if2 .left), spans spanned, ← c .size-of .ensures .0)
+
 -- past the fourth the size is within the span, and only the output's length can refuse
 held : (c : tie.Else4) (room : ℕ)
     → let args = c .before .before .before .before .before .before .before .args in
     refusal (payloadChecks (args .t1) (args .index) room) ≡ cond (ltb room (roundedUp (c .before .size-of .result))) CorruptedData Done
 held c room =
-    let spanned = c .before .before in
-    let entry = spanned .before .before .before .before .before .args .t1 in
-    rw (
-      payload (spanned .before .before),
-      ne-eqb _ _ (spanned .before .if2 .left),
-      spans spanned,
-      le-ltb (entrySize * (spanOf entry - 1)) (sizeOf entry) (rw (← c .before .size-of .ensures .0) (c .if4 .left)),
-      ← c .before .size-of .ensures .0,
-    )
+    let read = c .before in
+    let entry = read .before .before .before .before .before .before .args .t1 in
+    rw (sized read, le-ltb (entrySize * (spanOf entry - 1)) (read .size-of .result) (c .if4 .left))
 
 returns : tie.Need-returns
 returns c =
@@ -64,22 +68,15 @@ returns-3 c =
 
 returns-4 : tie.Need-returns-4
 returns-4 c =
-    let spanned = c .before .before in
-    let entry = spanned .before .before .before .before .before .args .t1 in
-    rw (
-      payload (spanned .before .before),
-      ne-eqb _ _ (spanned .before .if2 .left),
-      spans spanned,
-      lt-ltb (entrySize * (spanOf entry - 1)) (sizeOf entry) (rw (← c .before .size-of .ensures .0) (c .if4 .taken)),
-    )
+    let read = c .before in
+    let entry = read .before .before .before .before .before .before .args .t1 in
+    rw (sized read, lt-ltb (entrySize * (spanOf entry - 1)) (read .size-of .result) (c .if4 .taken))
 
 returns-5 : tie.Need-returns-5
-returns-5 c =
-    rw (held (c .before .before), ← c .before .rounded-up .ensures, lt-ltb _ _ (c .if5 .taken))
+returns-5 c = rw (held (c .before .before), ← c .before .rounded-up .ensures, lt-ltb _ _ (c .if5 .taken))
 
 returns-6 : tie.Need-returns-6
-returns-6 c =
-    rw (held (c .before .before), ← c .before .rounded-up .ensures, le-ltb _ _ (c .if5 .left))
+returns-6 c = rw (held (c .before .before), ← c .before .rounded-up .ensures, le-ltb _ _ (c .if5 .left))
 
 pub payload-refusal-spec : {M : Type 1} → statement M
 payload-refusal-spec =
