@@ -16,6 +16,7 @@ struct Trial {
     data: Answer,
     copy: Answer,
     kept: bool,
+    erased: bool,
     purged: bool,
 }
 
@@ -92,6 +93,7 @@ fn tried(made: u8, kind: u8) -> Trial {
         data: data_of(&image),
         copy: copy_of(made, kind),
         kept: page.used == 1,
+        erased: page.erased == 1,
         purged: is_purged(read),
     }
 }
@@ -100,7 +102,7 @@ fn is_not_found(answer: Answer) -> bool {
     answers::number_of(answer) == 7
 }
 
-// No call takes it for an item.
+// No call takes it for an item, and opening, which is done, marks the entry Erased.
 fn is_no_item(trial: Trial) -> bool {
     let load = trial.load;
     let data = trial.data;
@@ -117,6 +119,9 @@ fn is_no_item(trial: Trial) -> bool {
     if trial.kept {
         return false;
     }
+    if !trial.erased {
+        return false;
+    }
     !trial.purged
 }
 
@@ -130,8 +135,16 @@ fn print_trial(made: u8, kind: u8, trial: Trial) {
     test_print::answered(b", load data answer ", data);
     test_print::answered(b", copy answer ", copy);
     test_print::line(
-        b", ?kept by opening, ?purged\n",
-        [trial.kept as u64, trial.purged as u64, 0, 0, 0, 0, 0],
+        b", ?kept by opening, ?erased by it, ?purged\n",
+        [
+            trial.kept as u64,
+            trial.erased as u64,
+            trial.purged as u64,
+            0,
+            0,
+            0,
+            0,
+        ],
     );
 }
 
