@@ -304,7 +304,7 @@ rising_drop {address} zero r = rw (add-zero address) r
 rising_drop (suc n) rising_nil = rising_nil
 rising_drop (suc n) (rising_cons address a b c d {plan = plan} r) =
     let more : address + 4 + 4 * n ≡ address + 4 * suc n = omega arith in
-    subst (λ (from : ℕ). Rising from (drop n plan)) more (rising_drop n r)
+    subst (λ (from : ℕ). Rising from (drop n plan)) more (rising_drop {address = address + 4} n r)
 
 -- ---- units one after the other
 
@@ -337,7 +337,7 @@ length_run (unit address bytes ∷ plan) image =
 pub bytes_run : {image : List ℕ} (plan : List Unit4) → Bytes image → Bytes (run plan image)
 unfolding run
 bytes_run [] b = b
-bytes_run (unit address bytes ∷ plan) b = bytes_run plan (bytes_program address bytes b)
+bytes_run {image = image} (unit address bytes ∷ plan) b = bytes_run {image = program image address bytes} plan (bytes_program address bytes b)
 
 -- no unit sets a cleared bit
 pub clears_run : (plan : List Unit4) (image : List ℕ) → OnlyClears image (run plan image)
@@ -368,7 +368,7 @@ run_units address (x ∷ y ∷ []) b = run_tail address (x ∷ y ∷ []) 2 b
 run_units address (x ∷ y ∷ z ∷ []) b = run_tail address (x ∷ y ∷ z ∷ []) 1 b
 run_units {image} address (x ∷ y ∷ z ∷ v ∷ bytes) b =
     let four : List ℕ = x ∷ y ∷ z ∷ v ∷ [] in
-    run_units (address + 4) bytes (bytes_program address four b) ∙ sym (program_append image address four bytes)
+    run_units {image = program image address (x ∷ y ∷ z ∷ v ∷ [])} (address + 4) bytes (bytes_program address four b) ∙ sym (program_append image address four bytes)
 
 -- and the first n of them what one programming of its first 4 n bytes does
 pub run_take_units : {image : List ℕ} (n address : ℕ) (bytes : List ℕ) → Bytes image
@@ -478,7 +478,7 @@ take_drop_program (suc offset) n (old ∷ image) zero bytes (inr h) = absurd (om
 take_drop_program (suc offset) n (old ∷ image) (suc address) bytes (inr h) = take_drop_program offset n image address bytes (inr (omega arith))
 
 -- n bytes from an offset on that no unit reaches
-pub take_drop_run : {plan : List Unit4} (offset n : ℕ) (image : List ℕ) → Outside offset (offset + n) plan
+pub take_drop_run : (offset n : ℕ) {plan : List Unit4} (image : List ℕ) → Outside offset (offset + n) plan
     → take n (drop offset (run plan image)) ≡ take n (drop offset image)
 unfolding run
 take_drop_run offset n image outside_nil = refl

@@ -411,14 +411,14 @@ clears_mark_range s i (suc n) map = clears_trans (clears_mark s i map) (clears_m
 pub bytes_mark_range : {map : List ℕ} (s : EntryMapState) (i n : ℕ) → Bytes map → Bytes (mark_range s i n map)
 unfolding mark_range
 bytes_mark_range s i zero b = b
-bytes_mark_range s i (suc n) b = bytes_mark_range s (suc i) n (bytes_mark s i b)
+bytes_mark_range {map = map} s i (suc n) b = bytes_mark_range {map = mark s i map} s (suc i) n (bytes_mark s i b)
 
 -- and it marks their states
 pub unpack-mark_range : {map : List ℕ} (s : EntryMapState) (i n : ℕ) → Bytes map → unpack (mark_range s i n map) ≡ marked s i n (unpack map)
 unfolding mark_range
 unpack-mark_range {map} s i zero b = sym (marked_none s i (unpack map))
 unpack-mark_range {map} s i (suc n) b =
-    unpack-mark_range s (suc i) n (bytes_mark s i b)
+    unpack-mark_range {map = mark s i map} s (suc i) n (bytes_mark s i b)
     ∙ ap (marked s (suc i) n) (unpack_mark s i b)
     ∙ marked_suc s i n (unpack map)
 

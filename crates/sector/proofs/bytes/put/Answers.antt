@@ -7,24 +7,16 @@ use native.Mathlib.Numerals.{add-one}
 use borrow.Author.Rules.{rules}
 use lib.ListN.{length, take, get_or, set, length-set}
 use lib.Seq.{paste, paste-zero, paste-suc, take-length}
-use Rattle.sector.proofs.bytes.put.Statement.{statement}
-use Rattle.sector.proofs.bytes.put.Tie as tie
+use Rattle.sector.proofs.bytes.put.Goals as goal
 
-abbrev invariant-loop : tie.invariant-loop
-invariant-loop out₀ offset bytes k₀ k_end out k =
-    (k ≤ length bytes) × (k_end ≡ length bytes) × (out ≡ paste out₀ offset bytes k) × (length out ≡ length out₀)
-
-abbrev decreases-loop : tie.decreases-loop
-decreases-loop out₀ offset bytes k₀ k_end out k = k_end - k
-
-loop_holds : tie.Need-loop-init invariant-loop decreases-loop
-loop_holds c =
+pub loop-k-init : goal.loop-k-init
+loop-k-init c =
     (search rules, search rules, paste-zero c.args.out.now c.args.offset c.args.bytes.now, search rules)
 
-loop_again : tie.Need-loop-preserved invariant-loop decreases-loop
-loop_again c =
-    let z = c.before.before.before.args in
-    let l = c.before.before.loop in
+pub loop-k-preserved : goal.loop-k-preserved
+loop-k-preserved c =
+    let z = c.args in
+    let l = c.loop-k in
     let next : l.k < length z.bytes.now = omega arith in (
       omega arith,
       search rules,
@@ -34,16 +26,9 @@ loop_again c =
       simp length-set l.invariant.3,
     )
 
-returns : tie.Need-returns invariant-loop decreases-loop
+pub returns : goal.returns
 returns c =
-    let z = c.before.before.args in
-    let l = c.before.loop in
+    let z = c.args in
+    let l = c.loop-k in
     let all : l.k ≡ length z.bytes.now = omega arith in
     l.invariant.2 ∙ rw (all, take-length z.bytes.now, append_assoc (take z.offset z.out.now) z.bytes.now _)
-
-pub put_spec : {M : Type 1} → statement M
-put_spec =
-    tie.close
-    (tie.spec
-    invariant-loop decreases-loop loop_holds (λ c. search rules) (λ c. search rules) (λ c. search rules) (λ c. search rules) (λ c. search rules)
-    loop_again (λ c. search rules) returns)

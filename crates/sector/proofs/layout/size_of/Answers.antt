@@ -7,16 +7,12 @@ use borrow.Author.Rules.{rules}
 use lib.ListN.{length, get_or}
 use lib.Seq.{drop-cons}
 use Rattle.sector.specs.Layout.{size_of}
-use Rattle.sector.proofs.layout.size_of.Statement.{statement}
-use Rattle.sector.proofs.layout.size_of.Tie as tie
+use Rattle.sector.proofs.layout.size_of.Goals as goal
 
 size_bytes : (entry : List ℕ) → length entry ≡ 32 → size_of entry ≡ get_or entry 24 0 + 256 * get_or entry 25 0
 size_bytes entry h = rw (drop-cons entry 24 0 (omega arith), drop-cons entry 25 0 (omega arith)) (omega arith)
 
-returns : tie.Need-returns
+pub returns : goal.returns
 returns c =
-    let length_entry = c.before.well-formed.0.1.0.1 in
-    (c.u16-of.ensures.0 ∙ sym (size_bytes c.before.args.t1 length_entry), c.u16-of.ensures.1)
-
-pub size-of-spec : {M : Type 1} → statement M
-size-of-spec = tie.close (tie.spec (λ c. search rules) (λ c. search rules) (λ c κs. search rules) returns)
+    let length_entry = c.well_formed.0.1.0.1 in
+    (c.u16_of.ensures.0 ∙ sym (size_bytes c.args.entry length_entry), c.u16_of.ensures.1)

@@ -7,8 +7,7 @@ use native.Mathlib.Omega.{arith}
 use lib.ListN.{get_or}
 use Rattle.crc_tables.specs.Nibble.{with_bit, spread}
 use borrow.Author.Rules.{rules}
-use Rattle.crc_tables.proofs.by_bits.Statement.{statement}
-use Rattle.crc_tables.proofs.by_bits.Tie as tie
+use Rattle.crc_tables.proofs.by_bits.Goals as goal
 
 -- f k, f (k + 1), .., n of them
 abbrev tabulate : (ℕ → ℕ) → (k n : ℕ) → List ℕ
@@ -28,22 +27,16 @@ sum_of eight four two one v = with_bit (with_bit (with_bit (with_bit 0 (v % 2) o
 sum_spread : (eight four two one v : ℕ) → v < 16 → sum_of eight four two one v ≡ get_or (spread (eight ∷ four ∷ two ∷ one ∷ [])) v 0
 sum_spread eight four two one v h = ap (sum_of eight four two one) (sym (zero-add v)) ∙ sym (get_d_tabulate (sum_of eight four two one) 0 16 v h)
 
-returns : tie.Need-returns
+pub returns : goal.returns
 returns c =
-    let c3 = c.before in
-    let c2 = c3.before in
-    let c1 = c2.before in
-    let args = c1.before.args in
+    let c3 = c in
+    let c2 = c3 in
+    let c1 = c2 in
+    let args = c1.args in
     let v = args.value in
-    c.with-bit4.ensures
+    c.with_bit-3.ensures
     ∙ ap (λ (sum : ℕ). with_bit sum (v / 8 % 2) args.eight)
-    (c3.with-bit3.ensures
+    (c3.with_bit-2.ensures
     ∙ ap (λ (sum : ℕ). with_bit sum (v / 4 % 2) args.four)
-    (c2.with-bit2.ensures ∙ ap (λ (sum : ℕ). with_bit sum (v / 2 % 2) args.two) c1.with-bit.ensures))
+    (c2.with_bit-low.ensures ∙ ap (λ (sum : ℕ). with_bit sum (v / 2 % 2) args.two) c1.with_bit.ensures))
     ∙ sum_spread args.eight args.four args.two args.one v (omega arith)
-
-pub by-bits-spec : {M : Type 1} → statement M
-by-bits-spec =
-    tie.close
-    (tie.spec
-    (λ c κs. search rules) (λ c κs. search rules) (λ c κs. search rules) (λ c κs. search rules) returns)

@@ -8,8 +8,7 @@ use borrow.Author.Rules.{rules}
 use lib.ListN.{length, get_or}
 use Rattle.sector.specs.Layout.{number, field}
 use Rattle.sector.proofs.Laws.{field_cons}
-use Rattle.sector.proofs.bytes.number_at.Statement.{statement}
-use Rattle.sector.proofs.bytes.number_at.Tie as tie
+use Rattle.sector.proofs.bytes.number_at.Goals as goal
 
 -- four bytes, one after the other
 field_four : (bytes : List ℕ) (i : ℕ) → i + 4 ≤ length bytes
@@ -24,14 +23,7 @@ field_four bytes i h =
       field_cons (i + 3) 0 bytes (omega arith),
     )
 
-returns : tie.Need-returns
+pub returns : goal.returns
 returns c =
-    let z = c.before.before.before.before.before.before in
+    let z = c in
     c.number.ensures ∙ ap number (sym (field_four z.args.bytes.now z.args.offset z.requires))
-
-pub number-at-spec : {M : Type 1} → statement M
-number-at-spec =
-    tie.close
-    (tie.spec
-    (λ c. search rules) (λ c. search rules) (λ c. search rules) (λ c. search rules) (λ c. search rules) (λ c. search rules)
-    (λ c. search rules) (λ c κs. search rules) returns)

@@ -1,0 +1,16 @@
+-- `crc::intake_bytes` meets its contract: what is left of the bytes gives, from the register so far, what all of them give from the start.
+use mathlib.Core.Path.{◌≡◌, refl, sym, ap, ap₂, ◌∙◌}
+use Prim.Native.Nat.{ℕ, ◌-◌, ◌≤◌, ◌<◌}
+use native.Mathlib.Omega.{arith}
+use native.Mathlib.Numerals.{add-one}
+use lib.ListN.{length, drop, drop_of_length-le}
+use lib.Seq.{drop-cons}
+use Rattle.crc.specs.Crc.{register}
+use borrow.Author.Rules.{rules}
+use Rattle.crc.proofs.intake_bytes.Given as goal
+
+abbrev pub invariant-loop-at : goal.invariant-loop-at
+invariant-loop-at l = (l.at ≤ length l.bytes) × (register l.crc (drop l.at l.bytes) ≡ register l.start l.bytes)
+
+abbrev pub decreases-loop-at : goal.decreases-loop-at
+decreases-loop-at l = length l.bytes - l.at

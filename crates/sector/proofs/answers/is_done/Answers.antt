@@ -1,0 +1,7 @@
+-- `answers::is_done` meets its contract: it compares the answer's number.
+use borrow.Author.Rules.{rules}
+use Rattle.sector.proofs.answers.is_done.Goals as goal
+
+pub returns : goal.returns
+returns c =
+    rw c.number_of.ensures

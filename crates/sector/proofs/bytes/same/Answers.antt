@@ -1,0 +1,29 @@
+-- `bytes::same` meets its contract: the bytes passed are the same, so those after them decide.
+use mathlib.Core.Path.{◌≡◌, refl, sym, ◌∙◌}
+use Prim.Native.Nat.{◌≤◌, ◌-◌}
+use native.Mathlib.Omega.{arith}
+use borrow.Author.Rules.{rules}
+use lib.ListN.{length, drop}
+use Rattle.sector.specs.Layout.{same_bytes}
+use Rattle.sector.proofs.Laws.{same_bytes-length, same_bytes_pass, same_bytes_differ, same_bytes_end}
+use Rattle.sector.proofs.bytes.same.Goals as goal
+
+pub returns-then-first-second : goal.returns-then-first-second
+returns-then-first-second c =
+    sym (same_bytes-length c.args.first.now c.args.second.now c.if-first-second.true)
+
+pub loop-i-init : goal.loop-i-init
+loop-i-init c =
+    (search rules, refl)
+
+pub returns-then-first-i : goal.returns-then-first-i
+returns-then-first-i c =
+    let at = c in let start = at in sym (same_bytes_differ start.args.first.now start.args.second.now at.loop-i.i (omega arith) (omega arith) c.if-first-i.true) ∙ at.loop-i.invariant.1
+
+pub loop-i-preserved : goal.loop-i-preserved
+loop-i-preserved c =
+    let at = c in let start = at in (omega arith, sym (same_bytes_pass start.args.first.now start.args.second.now at.loop-i.i (omega arith) (omega arith) c.if-first-i.false) ∙ at.loop-i.invariant.1)
+
+pub returns : goal.returns
+returns c =
+    let at = c in let start = at in sym (same_bytes_end start.args.first.now start.args.second.now at.loop-i.i (omega arith) (omega arith)) ∙ at.loop-i.invariant.1
