@@ -15,7 +15,7 @@ use sector_item::item_bytes;
 use sector_types::kind_of;
 
 // A single entry to append: one of the eight primitives, or BlobIndex.
-#[derive(Drop)]
+#[derive(Clone, Copy)]
 pub struct Single {
     pub namespace: u8,
     pub kind: u8,
@@ -26,7 +26,7 @@ pub struct Single {
 }
 
 // The header of data to append: Sized, Blob or BlobData.
-#[derive(Drop)]
+#[derive(Clone, Copy)]
 pub struct Variable {
     pub namespace: u8,
     pub kind: u8,

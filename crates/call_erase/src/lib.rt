@@ -70,7 +70,7 @@ fn erase_refusal(image: &[u8], page: ThinPage, index: usize, span: usize) -> Ans
 // ---- the record
 
 // A list of places, and how many are in use.
-#[derive(Drop)]
+#[derive(Clone, Copy)]
 struct Places {
     list: [Listed; 126],
     len: u8,

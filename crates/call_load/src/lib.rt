@@ -8,7 +8,7 @@ ghost use Rattle.call_load.specs.Load.{entry_checks, raw_entry, load_item, refus
 use sector::{Answer, ENTRIES_PER_PAGE, ENTRY_SIZE, ITEMS_OFFSET, SECTOR_SIZE, answers, layout};
 
 // An entry's 32 bytes, all zero where the answer is not Done.
-#[derive(Drop)]
+#[derive(Clone, Copy)]
 pub struct Loaded {
     pub answer: Answer,
     pub item: [u8; 32],

@@ -7,7 +7,7 @@ ghost use Rattle.call_load_data.specs.Payload.{rounded_up, payload_checks, data_
 use sector::{Answer, ENTRIES_PER_PAGE, ENTRY_SIZE, answers, layout};
 
 // The size of the data that was read, 0 where the answer is not Done.
-#[derive(Drop)]
+#[derive(Clone, Copy)]
 pub struct DataLoaded {
     pub answer: Answer,
     pub size: usize,

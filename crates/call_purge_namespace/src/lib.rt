@@ -10,7 +10,7 @@ use page::{Outcome, ThinPage, fit};
 use sector::{Answer, EntryMapState, SECTOR_SIZE, layout};
 
 // What the walk does at an entry: whether the entry is zeroed, and how many of the following entries share its fate.
-#[derive(Drop)]
+#[derive(Clone, Copy)]
 struct Step {
     zeroed: bool,
     behind: usize,

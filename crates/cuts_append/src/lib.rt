@@ -15,14 +15,14 @@ const STOPPED: u8 = 11;
 const MOST: usize = 1100;
 
 // A sector and its record.
-#[derive(Drop)]
+#[derive(Clone, Copy)]
 pub struct Sector {
     pub image: [u8; 4096],
     pub page: ThinPage,
 }
 
 // What the stopped append answered, and what opening then answered and left.
-#[derive(Drop)]
+#[derive(Clone, Copy)]
 pub struct Cut {
     pub answer: Answer,
     pub opened: Answer,
@@ -30,14 +30,14 @@ pub struct Cut {
 }
 
 // What the append that nothing stops answered and left.
-#[derive(Drop)]
+#[derive(Clone, Copy)]
 pub struct Finished {
     pub answer: Answer,
     pub sector: Sector,
 }
 
 // What opening found after a cut: the items from before and nothing of the new one, these and the new one, or something else.
-#[derive(Drop)]
+#[derive(Clone, Copy)]
 pub enum Found {
     Absent,
     Whole,

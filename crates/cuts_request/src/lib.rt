@@ -9,7 +9,7 @@ const NO_DIGIT: u64 = 16;
 const KEY_SIZE: usize = 16;
 
 // An item to append: a single entry, with its eight bytes, or data, whose bytes are lent beside it.
-#[derive(Drop)]
+#[derive(Clone, Copy)]
 pub struct Request {
     pub single: bool,
     pub namespace: u8,
@@ -19,14 +19,14 @@ pub struct Request {
 }
 
 // The number that a word stands for, where it is `good`.
-#[derive(Drop)]
+#[derive(Clone, Copy)]
 pub struct Number {
     pub good: bool,
     pub value: u64,
 }
 
 // The first word that is wrong.
-#[derive(Drop)]
+#[derive(Clone, Copy)]
 pub enum Wrong {
     Nothing,
     BadNamespace,
@@ -36,7 +36,7 @@ pub enum Wrong {
 }
 
 // The request, where nothing is wrong.
-#[derive(Drop)]
+#[derive(Clone, Copy)]
 pub struct Parsed {
     pub wrong: Wrong,
     pub request: Request,

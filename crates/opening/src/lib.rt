@@ -16,14 +16,14 @@ mod plan;
 mod walk;
 
 // Items outside namespace 0: 126 places, of which len are in use.
-#[derive(Drop)]
+#[derive(Clone, Copy)]
 pub(crate) struct Listing {
     pub len: u8,
     pub list: [Listed; 126],
 }
 
 // What the walk leaves: the map with its marks, which entries are headers of refused payload items, the kept items.
-#[derive(Drop)]
+#[derive(Clone, Copy)]
 pub(crate) struct Walked {
     pub map: [u8; 32],
     pub heads: [bool; 126],
@@ -32,7 +32,7 @@ pub(crate) struct Walked {
 
 // What opening does to a page that opens: the map before it, the map after its first pass, and the record, with the map that
 // it leaves.
-#[derive(Drop)]
+#[derive(Clone, Copy)]
 pub(crate) struct Changes {
     pub map: [u8; 32],
     pub first: [u8; 32],
@@ -40,7 +40,7 @@ pub(crate) struct Changes {
 }
 
 // The record of a page that opens, and how many units its opening has.
-#[derive(Drop)]
+#[derive(Clone, Copy)]
 pub(crate) struct Opened {
     pub page: ThinPage,
     pub total: usize,

@@ -8,7 +8,7 @@ use opening_reading::Verdict;
 use sector::{ENTRIES_PER_PAGE, VERSION, bytes, states};
 
 // What opening makes of a header: an erased page, a page that opens, or the first rule that refused it.
-#[derive(Drop)]
+#[derive(Clone, Copy)]
 pub enum HeaderVerdict {
     Blank,
     Opens,
@@ -18,7 +18,7 @@ pub enum HeaderVerdict {
 }
 
 // The index and the span of the next kept item, or that there is none.
-#[derive(Drop)]
+#[derive(Clone, Copy)]
 pub enum Next {
     At(usize, usize),
     End,

@@ -7,7 +7,7 @@ ghost use Rattle.opening_reading.specs.Reading.{covered, is_usable, usable, firs
 use sector::{CRC_START, ENTRIES_PER_PAGE, ENTRY_SIZE, EntryMapState, bytes, layout};
 
 // The rule of the reading that refused an entry or an item.
-#[derive(Drop)]
+#[derive(Clone, Copy)]
 pub enum Reason {
     AllOnes,
     UnknownType,
@@ -21,7 +21,7 @@ pub enum Reason {
 
 // What the reading makes of an entry: no item is looked for; the entry is refused; a payload item is refused, or an
 // item is kept, with the entries that it covers after its header.
-#[derive(Drop)]
+#[derive(Clone, Copy)]
 pub enum Verdict {
     NotAnItem,
     RefusedEntry(Reason),

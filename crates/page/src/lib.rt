@@ -4,14 +4,14 @@ pub mod fit;
 use sector::{Answer, PageState};
 
 // An item outside namespace 0: its hash and its entry's index.
-#[derive(Drop)]
+#[derive(Clone, Copy)]
 pub struct Listed {
     pub hash: u32,
     pub index: u8,
 }
 
 // What is known of a page without reading it. The list has 126 places, of which len are in use.
-#[derive(Drop)]
+#[derive(Clone, Copy)]
 pub struct ThinPage {
     pub state: PageState,
     pub sequence: u32,
@@ -26,7 +26,7 @@ pub struct ThinPage {
 
 // What a writing call hands back. On a refusal the record is the incoming one; on Stopped too, and
 // then it no longer tells what the sector holds: such a page is good for opening only.
-#[derive(Drop)]
+#[derive(Clone, Copy)]
 pub struct Outcome {
     pub answer: Answer,
     pub page: ThinPage,

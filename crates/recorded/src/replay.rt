@@ -14,7 +14,7 @@ const FRAME_SIZE: usize = 8;
 // A file of under 4 MB has no more.
 const MOST_FRAMES: u32 = 500000;
 
-#[derive(Drop)]
+#[derive(Clone, Copy)]
 pub(crate) struct Replayed {
     pub(crate) status: Status,
     pub(crate) tally: Tally,

@@ -6,7 +6,7 @@ pub(crate) const NONE: u8 = 255;
 
 const CALLS: u8 = 22;
 
-#[derive(Drop)]
+#[derive(Clone, Copy)]
 pub(crate) struct Tally {
     // The cases that the file says it has, and those that were compared.
     pub(crate) cases: u64,

@@ -23,7 +23,7 @@ pub const CALL: u8 = 5;
 pub const COMPARE: u8 = 6;
 
 // Whether the replay goes on, or why it ends.
-#[derive(Drop)]
+#[derive(Clone, Copy)]
 pub enum Status {
     Going,
     // The end frame was the last of the file.
@@ -44,7 +44,7 @@ pub enum Status {
     MoreBytes,
 }
 
-#[derive(Drop)]
+#[derive(Clone, Copy)]
 pub struct Frame {
     pub kind: u8,
     // A buffer's number, or a call's.

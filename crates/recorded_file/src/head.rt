@@ -6,7 +6,7 @@ const HEAD_SIZE: usize = 16;
 
 const VERSION: u32 = 1;
 
-#[derive(Drop)]
+#[derive(Clone, Copy)]
 pub enum Head {
     Cases(u32),
     CutShort,

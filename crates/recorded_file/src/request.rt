@@ -6,7 +6,7 @@ ghost use Rattle.recorded_file.specs.Requests.{request_of};
 use crate::numbers;
 use sector::bytes;
 
-#[derive(Drop)]
+#[derive(Clone, Copy)]
 pub struct Request {
     pub namespace: u8,
     pub kind: u8,

@@ -38,7 +38,7 @@ pub const PAGE_STATE_FREEING: u32 = 0xFFFFFFF8;
 pub const PAGE_STATE_INVALID: u32 = 0;
 
 // What a page is for; Corrupt also for any word that is none of these.
-#[derive(Drop)]
+#[derive(Clone, Copy)]
 pub enum PageState {
     Uninitialized,
     Active,
@@ -49,7 +49,7 @@ pub enum PageState {
 }
 
 // The two bits of an entry in the map.
-#[derive(Drop)]
+#[derive(Clone, Copy)]
 pub enum EntryMapState {
     Empty,
     Written,
@@ -58,7 +58,7 @@ pub enum EntryMapState {
 }
 
 // The thirteen types. Any also stands for a byte that is none of them.
-#[derive(Drop)]
+#[derive(Clone, Copy)]
 pub enum ItemType {
     U8,
     I8,
@@ -77,7 +77,7 @@ pub enum ItemType {
 
 // What a type byte decides: the type that it names, a primitive's width (0 for other types), and whether a
 // payload lies after the item's header.
-#[derive(Drop)]
+#[derive(Clone, Copy)]
 pub struct Kind {
     pub named: ItemType,
     pub width: u8,
@@ -85,7 +85,7 @@ pub struct Kind {
 }
 
 // What a call answers; `number_of` of specs/ has document 01's numbers.
-#[derive(Drop)]
+#[derive(Clone, Copy)]
 pub enum Answer {
     Done,
     // The image is not 4,096 bytes.
@@ -113,21 +113,21 @@ pub enum Answer {
 }
 
 // A primitive's width; 0 where the answer is not Done.
-#[derive(Drop)]
+#[derive(Clone, Copy)]
 pub struct WidthAnswer {
     pub answer: Answer,
     pub width: u8,
 }
 
 // An entry's state; Erased, whose bits are 0, where the answer is not Done.
-#[derive(Drop)]
+#[derive(Clone, Copy)]
 pub struct StateAnswer {
     pub answer: Answer,
     pub state: EntryMapState,
 }
 
 // How many of the 126 entries are in each state.
-#[derive(Drop)]
+#[derive(Clone, Copy)]
 pub struct Statistics {
     pub empty: u32,
     pub written: u32,

@@ -7,7 +7,7 @@ use test_writing_cases::records::Sector;
 use test_writing_cases::{calls, records};
 
 // What the calls make of an item.
-#[derive(Drop)]
+#[derive(Clone, Copy)]
 struct Trial {
     load: Answer,
     data: Answer,

@@ -4,7 +4,7 @@ use call_append::{Single, Variable};
 use page::{Outcome, ThinPage};
 use sector::{ENTRIES_PER_PAGE, ENTRY_SIZE, ITEMS_OFFSET};
 
-#[derive(Drop)]
+#[derive(Clone, Copy)]
 pub enum Call {
     Initialise,
     Single {

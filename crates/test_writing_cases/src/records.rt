@@ -5,7 +5,7 @@ use page::{Listed, ThinPage};
 use sector::{Answer, PageState};
 
 // A page, and what the call that left it so answered.
-#[derive(Drop)]
+#[derive(Clone, Copy)]
 pub struct Sector {
     pub answer: Answer,
     pub image: [u8; 4096],

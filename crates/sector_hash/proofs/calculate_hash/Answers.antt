@@ -9,25 +9,17 @@ use lib.Seq.{set_at}
 use Rattle.crc.specs.Crc.{crc32}
 use Rattle.sector.specs.Item.{hash_of, crc_start}
 use Rattle.sector.proofs.Laws.{over}
-use Rattle.sector_hash.proofs.calculate_hash.Statement.{statement}
-use Rattle.sector_hash.proofs.calculate_hash.Tie as tie
+use Rattle.sector_hash.proofs.calculate_hash.Goals as goal
 
 -- namespace, key and chunk, one after the other
 laid : (namespace chunk : ℕ) (key : List ℕ) → length key ≡ 16
     → set (over (namespace ∷ replicate 17 0) 1 key) 17 chunk ≡ namespace ∷ key ++ (chunk ∷ [])
 laid namespace chunk key e = rw (e, set_at key 0 [] chunk 16 e)
 
-returns : tie.Need-returns
+pub returns : goal.returns
 unfolding hash_of
 returns c =
-    let put = c.before.before.before in
-    let z = put.before.before.before.args in
-    let bytes = ap (λ (out : List ℕ). set out 17 z.chunk) put.put.ensures ∙ laid z.namespace z.chunk z.t2 (omega arith) in
+    let put = c in
+    let z = put.args in
+    let bytes = ap (λ (out : List ℕ). set out 17 z.chunk) put.put.ensures ∙ laid z.namespace z.chunk z.key (omega arith) in
     ap (λ (crc : ℕ). crc % 2 ^ 24) (c.crc32.ensures ∙ ap (crc32 crc_start) bytes)
-
-pub calculate-hash-spec : {M : Type 1} → statement M
-calculate-hash-spec =
-    tie.close
-    (tie.spec
-    (λ c. search rules) (λ c. search rules) (λ c. search rules) (λ c κs. search rules) (λ c. search rules) (λ c. search rules)
-    (λ c κs. search rules) returns)

@@ -5,11 +5,7 @@ use native.Mathlib.Omega.{arith}
 use borrow.Author.Rules.{rules}
 use Rattle.sector.specs.Map.{bits_of}
 use Rattle.sector.proofs.Laws.{bits_le}
-use Rattle.sector_map.proofs.mark_mask.Statement.{statement}
-use Rattle.sector_map.proofs.mark_mask.Tie as tie
-
-sub_result : tie.Need-overflow-sub-result
-sub_result c = omega (arith, c.bits_of.ensures, bits_le c.before.args.state)
+use Rattle.sector_map.proofs.mark_mask.Goals as goal
 
 -- what a state clears of a pair stays within the byte
 shifted : (m k : ℕ) → m ≤ 3 → k < 4 → m * 2 ^ (2 * k) % 256 ≡ m * 4 ^ k
@@ -19,14 +15,13 @@ shifted m (suc (suc zero)) h l = omega arith
 shifted m (suc (suc (suc zero))) h l = omega arith
 shifted m (suc (suc (suc (suc k)))) h l = absurd (omega arith)
 
-returns : tie.Need-returns
-returns c =
-    let z = c.before.args in
-    let cleared : (3 - c.bits_of.result) * 2 ^ (2 * z.pair) % 256 ≡ (3 - bits_of z.state) * 4 ^ z.pair =
-    rw c.bits_of.ensures (shifted (3 - bits_of z.state) z.pair (omega arith) c.before.requires) in
-    ap (λ (bits : ℕ). 0xFF - bits) cleared
+pub overflow_sub-result : goal.overflow_sub-result
+overflow_sub-result c =
+    omega (arith, c.bits_of.ensures, bits_le c.args.state)
 
-pub mark-mask-spec : {M : Type 1} → statement M
-mark-mask-spec =
-    tie.close
-    (tie.spec (λ c κs. search rules) sub_result (λ c. search rules) (λ c. search rules) (λ c. search rules) (λ c. search rules) returns)
+pub returns : goal.returns
+returns c =
+    let z = c.args in
+    let cleared : (3 - c.bits_of.result) * 2 ^ (2 * z.pair) % 256 ≡ (3 - bits_of z.state) * 4 ^ z.pair =
+    rw c.bits_of.ensures (shifted (3 - bits_of z.state) z.pair (omega arith) c.requires) in
+    ap (λ (bits : ℕ). 0xFF - bits) cleared

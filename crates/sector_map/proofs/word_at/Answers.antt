@@ -10,23 +10,22 @@ use Rattle.flash.proofs.Laws.{bytes_of_get_d, bytes_take, bytes_drop}
 use Rattle.sector.specs.Layout.{number, field}
 use Rattle.sector_map.proofs.Words.{word_bytes, number_append}
 use Rattle.sector_map.specs.Words.{word_states}
-use Rattle.sector_map.proofs.word_at.Statement.{statement}
-use Rattle.sector_map.proofs.word_at.Tie as tie
+use Rattle.sector_map.proofs.word_at.Goals as goal
 
-returns : tie.Need-returns
+pub returns : goal.returns
 returns c =
-    let start = c.before.before.before in
+    let start = c in
     let map = start.args.map.now in
     let offset = start.args.offset in
     let size : length (take 4 (drop offset map)) ≡ 4 = length-take-le 4 (drop offset map) (rw length-drop (omega (arith, start.requires))) in
     let parts : field offset 8 map ≡ field offset 4 map ++ field (offset + 4) 4 map =
     take-add 4 4 (drop offset map) ∙ ap (λ (rest : List ℕ). take 4 (drop offset map) ++ take 4 rest) (drop-drop 4 offset map) in
-    let word : c.before.number_at.result + 0x1_0000_0000 * c.number-at2.result ≡ number (field offset 8 map) =
-    ap₂ (λ (low high : ℕ). low + 0x1_0000_0000 * high) c.before.number_at.ensures c.number-at2.ensures
+    let word : c.number_at-low.result + 0x1_0000_0000 * c.number_at-high.result ≡ number (field offset 8 map) =
+    ap₂ (λ (low high : ℕ). low + 0x1_0000_0000 * high) c.number_at-low.ensures c.number_at-high.ensures
     ∙ sym (ap number parts ∙ number_append (field offset 4 map) (field (offset + 4) 4 map) size) in
     let whole : 4 * length (field offset 8 map) ≡ 32 = omega (arith, length-take-le 8 (drop offset map) (rw length-drop (omega (arith, start.requires)))) in
-    let bytes = bytes_of_get_d map (λ i h. (c.before.before.shared-slice-known.given i).fits) in
-    (word, ap₂ word_states (sym whole) word ∙ word_bytes (bytes_take 8 (bytes_drop offset bytes)))
-
-pub word-at-spec : {M : Type 1} → statement M
-word-at-spec = tie.close (tie.spec (λ c κs. search rules) (λ c. search rules) (λ c κs. search rules) (λ c. search rules) (λ c. search rules) (λ c. search rules) (λ c. search rules) returns)
+    let bytes = bytes_of_get_d map (λ i h. (c.type_inv.map i).fits) in
+    record {
+      word = word;
+      entries = ap₂ word_states (sym whole) word ∙ word_bytes (bytes_take 8 (bytes_drop offset bytes));
+    }

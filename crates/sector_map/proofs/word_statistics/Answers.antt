@@ -7,14 +7,13 @@ use Rattle.sector.specs.declared.EntryMapState.{EntryMapState}
 use Rattle.sector.specs.declared.EntryMapState.TheVariants.{Empty, Written, Erased, Illegal}
 use Rattle.sector_map.specs.Words.{masked, word_statistics}
 use Rattle.sector_map.proofs.Words.{masked_small}
-use Rattle.sector_map.proofs.word_statistics.Statement.{statement}
-use Rattle.sector_map.proofs.word_statistics.Tie as tie
+use Rattle.sector_map.proofs.word_statistics.Goals as goal
 
-returns : tie.Need-returns
+pub returns : goal.returns
 unfolding masked word_statistics
 returns c =
     let small : (s : EntryMapState) → ones (masked s c.args.mask c.args.word) ≤ 64 = λ s. masked_small s c.args.mask c.args.word (omega arith) in
-    (refl, (small Empty, small Written, small Erased, small Illegal))
-
-pub word-statistics-spec : {M : Type 1} → statement M
-word-statistics-spec = tie.close (tie.spec returns)
+    record {
+      counts = refl;
+      small = (small Empty, small Written, small Erased, small Illegal);
+    }

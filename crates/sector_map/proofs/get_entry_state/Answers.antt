@@ -1,0 +1,20 @@
+-- `sector_map::get_entry_state` meets its contract: the test is that of `entry_state`.
+use mathlib.Core.Path.{ap}
+use borrow.Author.Tests.{le-ltb, lt-ltb}
+use borrow.Author.Rules.{rules}
+use Rattle.sector.specs.declared.Answer.TheVariants.{Done}
+use Rattle.sector.specs.declared.EntryMapState.{EntryMapState}
+use Rattle.sector.specs.declared.StateAnswer.{StateAnswer}
+use Rattle.sector.specs.Map.{entry_state}
+use Rattle.sector_map.proofs.get_entry_state.Goals as goal
+
+pub returns-then-index-ge-ENTRIES_PER_PAGE : goal.returns-then-index-ge-ENTRIES_PER_PAGE
+unfolding entry_state
+returns-then-index-ge-ENTRIES_PER_PAGE c =
+    rw (le-ltb _ 126 c.if-index-ge-ENTRIES_PER_PAGE.true)
+
+pub returns : goal.returns
+unfolding entry_state
+returns c =
+    rw (lt-ltb _ 126 c.if-index-ge-ENTRIES_PER_PAGE.false)
+    (ap {B = StateAnswer} (λ (s : EntryMapState). record { answer = Done; state = s }) c.state_at-state.ensures)

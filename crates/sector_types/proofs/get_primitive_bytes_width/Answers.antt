@@ -1,0 +1,24 @@
+-- `sector_types::get_primitive_bytes_width` meets its contract: the test is that of `primitive_width`, on the width that `kind_of` gives.
+use mathlib.Core.Path.{◌≡◌, sym, ap, ◌∙◌}
+use Prim.Native.Nat.{ℕ}
+use borrow.Author.Rules.{rules}
+use borrow.Author.Tests.{eq-eqb, ne_eqb}
+use Rattle.sector.specs.declared.Answer.TheVariants.{Done, ItemTypeMismatch}
+use Rattle.sector.specs.declared.Kind.{Kind}
+use Rattle.sector.specs.declared.WidthAnswer.{WidthAnswer}
+use Rattle.sector.specs.Types.{item_type, kind_of, primitive_width, width_of}
+use Rattle.sector_types.proofs.get_primitive_bytes_width.Goals as goal
+
+pub returns-then-width-eq0 : goal.returns-then-width-eq0
+unfolding primitive_width kind_of
+returns-then-width-eq0 c =
+    let width : c.kind_of-kind.result.width ≡ width_of (item_type c.args.byte) = ap (λ (kind : Kind). kind.width) c.kind_of-kind.ensures in
+    rw (eq-eqb _ 0 (sym width ∙ c.if-width-eq0.true))
+    (ap {B = WidthAnswer} (λ (byte : ℕ). record { answer = ItemTypeMismatch byte; width = 0 }) c.type_byte.ensures)
+
+pub returns : goal.returns
+unfolding primitive_width kind_of
+returns c =
+    let width : c.kind_of-kind.result.width ≡ width_of (item_type c.args.byte) = ap (λ (kind : Kind). kind.width) c.kind_of-kind.ensures in
+    rw (ne_eqb _ 0 (λ none. c.if-width-eq0.false (width ∙ none)))
+    (ap {B = WidthAnswer} (λ (n : ℕ). record { answer = Done; width = n }) width)
