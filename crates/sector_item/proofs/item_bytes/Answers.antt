@@ -9,8 +9,7 @@ use lib.Seq.{take_at}
 use Rattle.sector.specs.Layout.{little_endian}
 use Rattle.sector.specs.Item.{item_bytes, item_crc}
 use Rattle.sector.proofs.Laws.{over}
-use Rattle.sector_item.proofs.item_bytes.Statement.{statement}
-use Rattle.sector_item.proofs.item_bytes.Tie as tie
+use Rattle.sector_item.proofs.item_bytes.Goals as goal
 
 -- an entry of these four bytes, key and data, its CRC still 0
 abbrev blank_crc : ℕ → ℕ → ℕ → ℕ → List ℕ → List ℕ → List ℕ
@@ -23,29 +22,15 @@ module _ (namespace kind span chunk : ℕ) (key bytes : List ℕ) (k : length ke
       let fits : length (key ++ replicate 8 0) ≤ 24 = simp length-append (omega arith) in
       rw (k, b, take_at key (replicate 8 0) 16 k, drop_of_length-le (key ++ replicate 8 0) fits, append-nil bytes)
 
--- before the CRC is known
-blank : (c : tie.After-put2)
-    → let z = c.before.before.before.before.before.before.before.args in
-    c.put2.new.0 ≡ blank_crc z.namespace z.kind z.span z.chunk z.t5 z.t6
-blank c =
-    let first = c.before.before.before.before in
-    let z = first.before.before.before.args in
-    c.put2.ensures
-    ∙ ap (λ (out : List ℕ). over out 24 z.t6) first.put.ensures
-    ∙ laid z.namespace z.kind z.span z.chunk z.t5 z.t6 (omega arith) (omega arith)
-
-returns : tie.Need-returns
+pub returns : goal.returns
 unfolding item_bytes item_crc
 returns c =
-    let coded = c.before.before.before.before in
-    let bytes = blank coded.before.before.before in
-    let crc = coded.little_endian.ensures ∙ ap (little_endian 4) (coded.before.item-crc.ensures ∙ ap item_crc bytes) in
-    c.before.put3.ensures ∙ ap₂ (λ (out four : List ℕ). over out 4 four) bytes crc
-
-pub item-bytes-spec : {M : Type 1} → statement M
-item-bytes-spec =
-    tie.close
-    (tie.spec
-    (λ c. search rules) (λ c. search rules) (λ c. search rules) (λ c. search rules) (λ c. search rules) (λ c. search rules)
-    (λ c κs. search rules) (λ c. search rules) (λ c. search rules) (λ c κs. search rules) (λ c κs. search rules)
-    (λ c κs. search rules) (λ c. search rules) (λ c. search rules) (λ c κs. search rules) returns)
+    let blank : let z = c.args in c.put-2.new.out ≡ blank_crc z.namespace z.kind z.span z.chunk z.key z.bytes = let first = c in
+    let z = first.args in
+    c.put-2.ensures
+    ∙ ap (λ (out : List ℕ). over out 24 z.bytes) first.put.ensures
+    ∙ laid z.namespace z.kind z.span z.chunk z.key z.bytes (omega arith) (omega arith) in
+    let coded = c in
+    let bytes = blank in
+    let crc = coded.little_endian-crc.ensures ∙ ap (little_endian 4) (coded.item_crc.ensures ∙ ap item_crc bytes) in
+    c.put-3.ensures ∙ ap₂ (λ (out four : List ℕ). over out 4 four) bytes crc
