@@ -1,0 +1,49 @@
+-- `call_purge::zero_entries` meets its contract: the entries still to come, zeroed in what there is, are all of them zeroed in the image.
+use mathlib.Core.Path.{◌≡◌, sym, ap, ◌∙◌}
+use mathlib.Core.List.{List}
+use Prim.Native.Nat.{ℕ, suc, ◌+◌, ◌-◌, ◌*◌, ◌≤◌}
+use native.Mathlib.Omega.{arith}
+use borrow.Author.Rules.{rules}
+use lib.ListN.{length, replicate}
+use Rattle.flash.specs.Flash.{Unit4, units, run}
+use Rattle.sector.specs.Layout.{entry_size, entry_address, sector_size}
+use Rattle.call_purge.proofs.Laws.{run_zeros}
+use Rattle.call_purge.proofs.zero_entries.Goals as goal
+
+-- the units that zero n entries
+abbrev zeros : ℕ → ℕ → List Unit4
+zeros i n = units (entry_address i) (replicate (entry_size * n) 0)
+
+pub loop-i-init : goal.loop-i-init
+loop-i-init c =
+    let start = c in
+    let args = start.args in
+    let all : args.index + args.span - args.index ≡ args.span = omega arith in (
+      start.requires.0,
+      omega arith,
+      search rules,
+      ap (λ (n : ℕ). run (zeros args.index n) args.image.now) all,
+    )
+
+pub loop-i-preserved : goal.loop-i-preserved
+loop-i-preserved c =
+    let zeroed = c in
+    let at = zeroed in
+    let args = at.args in
+    let end : ℕ = args.index + args.span in
+    let one : end - at.loop-i.i ≡ suc (end - (at.loop-i.i + 1)) = omega arith in (
+      omega arith,
+      omega arith,
+      search rules,
+      run_zeros at.loop-i.i (end - (at.loop-i.i + 1)) at.loop-i.image zeroed.zero_entry.ensures
+          ∙ ap (λ (n : ℕ). run (zeros at.loop-i.i n) at.loop-i.image) (sym one)
+          ∙ at.loop-i.invariant.3,
+    )
+
+pub returns : goal.returns
+unfolding units run
+returns c =
+    let args = c.args in
+    let at = c.loop-i in
+    let none : args.index + args.span - at.i ≡ 0 = omega arith in
+    sym (ap (λ (n : ℕ). run (zeros at.i n) at.image) none) ∙ at.invariant.3

@@ -1,0 +1,16 @@
+-- `call_purge::zero_entries` meets its contract: the entries still to come, zeroed in what there is, are all of them zeroed in the image.
+use mathlib.Core.Path.{◌≡◌, sym, ap, ◌∙◌}
+use mathlib.Core.List.{List}
+use Prim.Native.Nat.{ℕ, suc, ◌+◌, ◌-◌, ◌*◌, ◌≤◌}
+use native.Mathlib.Omega.{arith}
+use borrow.Author.Rules.{rules}
+use lib.ListN.{length, replicate}
+use Rattle.flash.specs.Flash.{Unit4, units, run}
+use Rattle.sector.specs.Layout.{entry_size, entry_address, sector_size}
+use Rattle.call_purge.proofs.Laws.{run_zeros}
+use Rattle.call_purge.proofs.zero_entries.Given as goal
+
+abbrev pub invariant-loop-i : goal.invariant-loop-i
+invariant-loop-i l = 
+    (length l.image ≡ sector_size) × (l.i ≤ l.i-end) × (l.i-end ≡ l.index + l.span)
+    × (run (zeros l.i (l.i-end - l.i)) l.image ≡ run (zeros l.index l.span) l.initial.image)
