@@ -8,11 +8,8 @@ use lib.ListN.{length, replicate}
 use Rattle.flash.specs.Flash.{Unit4, units, run}
 use Rattle.sector.specs.Layout.{entry_size, entry_address, sector_size}
 use Rattle.call_purge.proofs.Laws.{run_zeros}
+use Rattle.call_purge.proofs.zero_entries.Invariants.{zeros}
 use Rattle.call_purge.proofs.zero_entries.Goals as goal
-
--- the units that zero n entries
-abbrev zeros : ℕ → ℕ → List Unit4
-zeros i n = units (entry_address i) (replicate (entry_size * n) 0)
 
 pub loop-i-init : goal.loop-i-init
 loop-i-init c =

@@ -10,6 +10,10 @@ use Rattle.sector.specs.Layout.{entry_size, entry_address, sector_size}
 use Rattle.call_purge.proofs.Laws.{run_zeros}
 use Rattle.call_purge.proofs.zero_entries.Given as goal
 
+-- the units that zero n entries
+abbrev pub zeros : ℕ → ℕ → List Unit4
+zeros i n = units (entry_address i) (replicate (entry_size * n) 0)
+
 abbrev pub invariant-loop-i : goal.invariant-loop-i
 invariant-loop-i l = 
     (length l.image ≡ sector_size) × (l.i ≤ l.i-end) × (l.i-end ≡ l.index + l.span)

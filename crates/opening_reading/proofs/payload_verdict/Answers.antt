@@ -19,21 +19,21 @@ use Rattle.opening_reading.proofs.payload_verdict.Goals as goal
 pub returns-then-size-behind : goal.returns-then-size-behind
 returns-then-size-behind c =
     let entry = c.args.entry in
-    let size = c.type_size.ensures.0 in
+    let size = c.size_of-size.ensures.0 in
     rw (lt-ltb (entry_size * covered entry) (size_of entry) (omega arith))
 
 pub returns-then-crc-number_at : goal.returns-then-crc-number_at
 returns-then-crc-number_at c =
     let sized : size_too_big c.args.entry ≡ false = let entry = c.args.entry in
-    let size = c.type_size.ensures.0 in
+    let size = c.size_of-size.ensures.0 in
     le-ltb (entry_size * covered entry) (size_of entry) (omega arith) in
     let payload_crc : let args = c.args in crc32 crc_start (take (size_of args.entry) (joined (take (covered args.entry) (drop (args.index + 1) (entries_of args.image.now))))) ≡ c.crc32-crc.result = let placed = c in
     let sized = placed in
     let args = sized.args in
     let image = args.image.now in
-    let size = sized.type_size.ensures.0 in
+    let size = sized.size_of-size.ensures.0 in
     let start = placed.entry_address-start.result in
-    let long : start + sized.type_size.result - start ≡ size_of args.entry = omega arith in
+    let long : start + sized.size_of-size.result - start ≡ size_of args.entry = omega arith in
     let covers : suc args.index + covered args.entry ≤ 126 = omega arith in
     let fits : size_of args.entry ≤ entry_size * covered args.entry = omega arith in
     sym
@@ -47,15 +47,15 @@ returns-then-crc-number_at c =
 pub returns-then-not-all_usable : goal.returns-then-not-all_usable
 returns-then-not-all_usable c =
     let sized : size_too_big c.args.entry ≡ false = let entry = c.args.entry in
-    let size = c.type_size.ensures.0 in
+    let size = c.size_of-size.ensures.0 in
     le-ltb (entry_size * covered entry) (size_of entry) (omega arith) in
     let payload_crc : let args = c.args in crc32 crc_start (take (size_of args.entry) (joined (take (covered args.entry) (drop (args.index + 1) (entries_of args.image.now))))) ≡ c.crc32-crc.result = let placed = c in
     let sized = placed in
     let args = sized.args in
     let image = args.image.now in
-    let size = sized.type_size.ensures.0 in
+    let size = sized.size_of-size.ensures.0 in
     let start = placed.entry_address-start.result in
-    let long : start + sized.type_size.result - start ≡ size_of args.entry = omega arith in
+    let long : start + sized.size_of-size.result - start ≡ size_of args.entry = omega arith in
     let covers : suc args.index + covered args.entry ≤ 126 = omega arith in
     let fits : size_of args.entry ≤ entry_size * covered args.entry = omega arith in
     sym
@@ -70,15 +70,15 @@ returns-then-not-all_usable c =
 pub returns : goal.returns
 returns c =
     let sized : size_too_big c.args.entry ≡ false = let entry = c.args.entry in
-    let size = c.type_size.ensures.0 in
+    let size = c.size_of-size.ensures.0 in
     le-ltb (entry_size * covered entry) (size_of entry) (omega arith) in
     let payload_crc : let args = c.args in crc32 crc_start (take (size_of args.entry) (joined (take (covered args.entry) (drop (args.index + 1) (entries_of args.image.now))))) ≡ c.crc32-crc.result = let placed = c in
     let sized = placed in
     let args = sized.args in
     let image = args.image.now in
-    let size = sized.type_size.ensures.0 in
+    let size = sized.size_of-size.ensures.0 in
     let start = placed.entry_address-start.result in
-    let long : start + sized.type_size.result - start ≡ size_of args.entry = omega arith in
+    let long : start + sized.size_of-size.result - start ≡ size_of args.entry = omega arith in
     let covers : suc args.index + covered args.entry ≤ 126 = omega arith in
     let fits : size_of args.entry ≤ entry_size * covered args.entry = omega arith in
     sym

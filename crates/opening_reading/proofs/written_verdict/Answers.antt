@@ -56,7 +56,7 @@ returns-then-span-eq0 c =
     let type_known : known_type c.entry_at-entry.result ≡ true = sym c.is_known.ensures ∙ c.if-not-is_known.false in
     let crc_right' : crc_right c.entry_at-entry.result ≡ true = sym c.crc_right.ensures ∙ c.if-not-crc_right.false in
     let loaded : (left : ℕ) → let entry = c.entry_at-entry.result in header_refusal entry left ≡ first_rule ((span_off_page entry left, SpanOffPage) ∷ (wrong_span entry, WrongSpan) ∷ []) = λ left. rw (bytes_there, type_known, crc_right') in
-    let read = read3 c in
+    let read = c in
     rw (← read.entry_at-entry.ensures, loaded, eq-eqb (span_of read.entry_at-entry.result) 0 c.if-span-eq0.true)
 
 pub returns-then-span-index : goal.returns-then-span-index
@@ -66,7 +66,7 @@ returns-then-span-index c =
     let type_known : known_type c.entry_at-entry.result ≡ true = sym c.is_known.ensures ∙ c.if-not-is_known.false in
     let crc_right' : crc_right c.entry_at-entry.result ≡ true = sym c.crc_right.ensures ∙ c.if-not-crc_right.false in
     let loaded : (left : ℕ) → let entry = c.entry_at-entry.result in header_refusal entry left ≡ first_rule ((span_off_page entry left, SpanOffPage) ∷ (wrong_span entry, WrongSpan) ∷ []) = λ left. rw (bytes_there, type_known, crc_right') in
-    let read = read3 c in
+    let read = c in
     let entry = read.entry_at-entry.result in
     let args = read.args in
     rw (
@@ -84,7 +84,7 @@ returns-then-kind c =
     let type_known : known_type c.entry_at-entry.result ≡ true = sym c.is_known.ensures ∙ c.if-not-is_known.false in
     let crc_right' : crc_right c.entry_at-entry.result ≡ true = sym c.crc_right.ensures ∙ c.if-not-crc_right.false in
     let loaded : (left : ℕ) → let entry = c.entry_at-entry.result in header_refusal entry left ≡ first_rule ((span_off_page entry left, SpanOffPage) ∷ (wrong_span entry, WrongSpan) ∷ []) = λ left. rw (bytes_there, type_known, crc_right') in
-    let spanned : let read = read3 c in let image = read.args.image.now in let index = read.args.index in header_refusal read.entry_at-entry.result (length (drop (index + 1) (entries_of image))) ≡ cond (wrong_span read.entry_at-entry.result) (some WrongSpan) none = let read = read3 c in
+    let spanned : let read = c in let image = read.args.image.now in let index = read.args.index in header_refusal read.entry_at-entry.result (length (drop (index + 1) (entries_of image))) ≡ cond (wrong_span read.entry_at-entry.result) (some WrongSpan) none = let read = c in
     let entry = read.entry_at-entry.result in
     let args = read.args in
     rw (
@@ -105,7 +105,7 @@ returns-then-span-ne1 c =
     let type_known : known_type c.entry_at-entry.result ≡ true = sym c.is_known.ensures ∙ c.if-not-is_known.false in
     let crc_right' : crc_right c.entry_at-entry.result ≡ true = sym c.crc_right.ensures ∙ c.if-not-crc_right.false in
     let loaded : (left : ℕ) → let entry = c.entry_at-entry.result in header_refusal entry left ≡ first_rule ((span_off_page entry left, SpanOffPage) ∷ (wrong_span entry, WrongSpan) ∷ []) = λ left. rw (bytes_there, type_known, crc_right') in
-    let spanned : let read = read3 c in let image = read.args.image.now in let index = read.args.index in header_refusal read.entry_at-entry.result (length (drop (index + 1) (entries_of image))) ≡ cond (wrong_span read.entry_at-entry.result) (some WrongSpan) none = let read = read3 c in
+    let spanned : let read = c in let image = read.args.image.now in let index = read.args.index in header_refusal read.entry_at-entry.result (length (drop (index + 1) (entries_of image))) ≡ cond (wrong_span read.entry_at-entry.result) (some WrongSpan) none = let read = c in
     let entry = read.entry_at-entry.result in
     let args = read.args in
     rw (
@@ -116,7 +116,7 @@ returns-then-span-ne1 c =
     ) in
     let payload_tested : is_payload c.entry_at-entry.result ≡ c.kind_of-kind.result.payload = sym (ap (λ (kind : Kind). kind.payload) c.kind_of-kind.ensures) in
     let typed = c in
-    let read = read_typed typed in
+    let read = typed in
     rw (
       ← read.entry_at-entry.ensures,
       spanned,
@@ -131,7 +131,7 @@ returns c =
     let type_known : known_type c.entry_at-entry.result ≡ true = sym c.is_known.ensures ∙ c.if-not-is_known.false in
     let crc_right' : crc_right c.entry_at-entry.result ≡ true = sym c.crc_right.ensures ∙ c.if-not-crc_right.false in
     let loaded : (left : ℕ) → let entry = c.entry_at-entry.result in header_refusal entry left ≡ first_rule ((span_off_page entry left, SpanOffPage) ∷ (wrong_span entry, WrongSpan) ∷ []) = λ left. rw (bytes_there, type_known, crc_right') in
-    let spanned : let read = read3 c in let image = read.args.image.now in let index = read.args.index in header_refusal read.entry_at-entry.result (length (drop (index + 1) (entries_of image))) ≡ cond (wrong_span read.entry_at-entry.result) (some WrongSpan) none = let read = read3 c in
+    let spanned : let read = c in let image = read.args.image.now in let index = read.args.index in header_refusal read.entry_at-entry.result (length (drop (index + 1) (entries_of image))) ≡ cond (wrong_span read.entry_at-entry.result) (some WrongSpan) none = let read = c in
     let entry = read.entry_at-entry.result in
     let args = read.args in
     rw (
@@ -142,7 +142,7 @@ returns c =
     ) in
     let payload_tested : is_payload c.entry_at-entry.result ≡ c.kind_of-kind.result.payload = sym (ap (λ (kind : Kind). kind.payload) c.kind_of-kind.ensures) in
     let typed = c in
-    let read = read_typed typed in
+    let read = typed in
     let plain = payload_tested ∙ c.if-kind.false in
     rw (
       ← read.entry_at-entry.ensures,

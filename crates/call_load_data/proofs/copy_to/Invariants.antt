@@ -1,0 +1,14 @@
+-- `call_load_data::copy_to` meets its contract: after k turns the output's first k bytes are the part's.
+use mathlib.Core.Path.{◌≡◌}
+use mathlib.Core.List.{◌++◌}
+use Prim.Native.Nat.{◌-◌, ◌≤◌}
+use native.Mathlib.Omega.{arith}
+use borrow.Author.Rules.{rules}
+use lib.ListN.{length, take, drop}
+use lib.Seq.{take-length}
+use Rattle.sector.proofs.Laws.{copied_next}
+use Rattle.call_load_data.proofs.Laws.{length_copied}
+use Rattle.call_load_data.proofs.copy_to.Given as goal
+
+abbrev pub invariant-loop-k : goal.invariant-loop-k
+invariant-loop-k l = (l.k ≤ length l.part) × (l.k-end ≡ length l.part) × (l.output ≡ take l.k l.part ++ drop l.k l.initial.output)
