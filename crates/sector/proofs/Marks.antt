@@ -17,7 +17,8 @@ use Rattle.sector.proofs.Laws.{bits_le}
 use Rattle.sector.specs.declared.EntryMapState.{EntryMapState}
 use Rattle.sector.specs.declared.EntryMapState.TheVariants.{Empty, Written, Erased, Illegal}
 use Rattle.sector.specs.Layout.{entries_per_page, map_offset, items_offset, field, map_of}
-use Rattle.sector.specs.Map.{bits_of, state_of_bits, state_bits, packed, pack, unpack, states_of, same_state, count_in, mark_mask, mark, mark_range, map_units}
+use Rattle.sector.proofs.StateBits.{state_bits}
+use Rattle.sector.specs.Map.{bits_of, state_of_bits, packed, pack, unpack, states_of, same_state, count_in, mark_mask, mark, mark_range, map_units}
 
 -- ---- AND of two states
 

@@ -8,7 +8,8 @@ use Rattle.sector.specs.declared.EntryMapState.{EntryMapState}
 use Rattle.sector.specs.declared.ItemType.{ItemType}
 use Rattle.sector.specs.declared.PageState.{PageState}
 use Rattle.sector.specs.Answers.{number_of, carried_byte, answer_of, answer_number}
-use Rattle.sector.specs.Map.{bits_of, state_of_bits, state_bits}
+use Rattle.sector.proofs.StateBits.{state_bits}
+use Rattle.sector.specs.Map.{bits_of, state_of_bits}
 use Rattle.sector.specs.Types.{byte_of, item_type, type_byte_lem}
 use Rattle.sector.specs.Header.{word_of, state_of_word, state_word_lem}
 use Rattle.sector.proofs.bytes.little_endian.Kinds as little_endian_kinds

@@ -23,13 +23,6 @@ bits_of Illegal = 0b01
 abbrev pub state_of_bits : ℕ → EntryMapState
 state_of_bits bits = get_or (Erased ∷ Illegal ∷ Written ∷ Empty ∷ []) bits Empty
 
--- no two states share their bits
-pub state_bits : (s : EntryMapState) → state_of_bits (bits_of s) ≡ s
-state_bits Empty = refl
-state_bits Written = refl
-state_bits Erased = refl
-state_bits Illegal = refl
-
 -- ---- the state of an entry
 
 -- the two bits of an entry
