@@ -14,7 +14,7 @@ pub put-requires-2 : goal.put-requires-2
 put-requires-2 c =
     let map_long : length c.args.page.map ≡ 32 = c.well_formed.0.1.1.1.1.1.1.0.1.0.1 in
     let long = map_long in
-    omega (arith, long, c.put.auto.0)
+    omega (arith, long, c.put.auto.out)
 
 pub returns : goal.returns
 unfolding record_bytes
