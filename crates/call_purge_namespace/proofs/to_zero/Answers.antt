@@ -32,8 +32,8 @@ loop-i-preserved c =
         let none : step.behind ≡ 0 = omega (arith, w.if-step-gt0.false) in
         ap (λ (k : ℕ). to_zero args.namespace k step.zeroed (drop i (states_of args.map)) (drop i (entries_of image))) none
         ∙ to_zero_header args.namespace args.map image i (omega arith) (omega arith) step.zeroed
-        (w.step_at.ensures.0 ∙ ap₂ (purged args.namespace) w.state_at.ensures w.entry_at.ensures)
-        (w.step_at.ensures.1 ∙ ap₂ passed w.state_at.ensures w.entry_at.ensures)
+        (w.step_at-step.ensures.0 ∙ ap₂ (purged args.namespace) w.state_at.ensures w.entry_at.ensures)
+        (w.step_at-step.ensures.1 ∙ ap₂ passed w.state_at.ensures w.entry_at.ensures)
         ∙ ap (λ (next : Step). next.zeroed ∷ rest next (i + 1)) (sym w.step-is)
     ] in
     let at = c.loop-i in

@@ -25,7 +25,7 @@ loop-i-preserved c =
         ] in
     let at = c.loop-i in
     let marks = c.args.marks in (
-      ap length turn ∙ length_run _ _ ∙ at.invariant.0,
+      ap length turn ∙ length_run (cond (get_or marks at.i false) (units (entry_address at.i) (replicate entry_size 0)) []) at.image ∙ at.invariant.0,
       omega arith,
       run_marked marks at.i at.image (omega arith) turn ∙ at.invariant.2,
     )
