@@ -15,10 +15,10 @@ use Rattle.opening_found.proofs.next_kept.Goals as goal
 
 -- past the test nothing is kept
 passed_by : (v : Verdict) → ((k : ℕ) → v ≡ Kept k → ⊥) → Passed v
-passed_by NotAnItem no = no_item
-passed_by (RefusedEntry reason) no = bad_entry reason
-passed_by (RefusedItem reason k) no = bad_item reason k
-passed_by (Kept k) no = absurd (no k refl)
+passed_by NotAnItem other = no_item
+passed_by (RefusedEntry reason) other = bad_entry reason
+passed_by (RefusedItem reason k) other = bad_item reason k
+passed_by (Kept k) other = absurd (other k refl)
 
 pub overflow_add-result : goal.overflow_add-result
 overflow_add-result c =
