@@ -43,7 +43,10 @@ class Wrong(Exception):
 
 
 def read(text):
-    """The families in their order, the family of each crate, and the crates of this repository that it rests on."""
+    """The families in their order, the family of each crate, and the crates of this repository that it rests on.
+
+    A line is `NAME: CRATE CRATE ..`; of a static library, `NAME staticlib: CRATE CRATE ..`.
+    """
     family, family_of, words = None, {}, {}
     for number, line in enumerate(text.splitlines(), 1):
         heading = re.fullmatch(r"# ([a-z_]+(?:, [a-z_]+)*): .*", line)
@@ -53,6 +56,7 @@ def read(text):
         if not line:
             continue
         name, colon, rest = line.partition(":")
+        name = name.removesuffix(" staticlib")
         if not colon or not family or name in words:
             raise Wrong(f"line {number} of crates.txt is no new crate below the heading of a family")
         family_of[name], words[name] = family, rest.split()
