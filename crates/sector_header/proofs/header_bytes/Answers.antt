@@ -3,7 +3,6 @@ use mathlib.Core.Path.{◌≡◌, ap, ap₂, ◌∙◌}
 use mathlib.Core.List.{List, ◌++◌}
 use Prim.Native.Nat.{ℕ}
 use native.Mathlib.Omega.{arith}
-use borrow.Author.Rules.{rules}
 use lib.ListN.{replicate, set, length-set}
 use Rattle.sector.specs.declared.PageState.TheVariants.{Active}
 use Rattle.sector.specs.Layout.{little_endian}
