@@ -1,6 +1,5 @@
 -- `put_counts` meets its contract: four words lie one after the other up to the end of the answer.
 use mathlib.Core.Path.{refl, ap, ◌∙◌}
-use borrow.Author.Rules.{rules}
 use Rattle.sector.specs.Layout.{little_endian}
 use Rattle.sector.proofs.Laws.{over}
 use Rattle.boundary_encoding.proofs.Laws.{words_laid}

@@ -1,11 +1,7 @@
 -- `put_places` meets its contract: after k turns the bytes of the first k places lie after the rest of the record.
-use mathlib.Core.Path.{◌≡◌}
-use mathlib.Core.List.{◌++◌}
-use Prim.Native.Nat.{◌+◌, ◌-◌, ◌*◌, ◌≤◌}
+use Prim.Native.Nat.{◌+◌, ◌-◌}
 use native.Mathlib.Omega.{arith}
-use borrow.Author.Rules.{rules}
-use lib.ListN.{length, drop}
-use Rattle.boundary_encoding.proofs.Laws.{places_front, places_front_none, places_front_next, places_front_all, length_laid}
+use Rattle.boundary_encoding.proofs.Laws.{places_front_none, places_front_next, places_front_all, length_laid}
 use Rattle.boundary_encoding.proofs.put_places.Goals as goal
 
 pub loop-k-preserved : goal.loop-k-preserved

@@ -1,10 +1,9 @@
 -- `put_record` meets its contract: head, map and counts lie one after the other, and the places after them.
-use mathlib.Core.Path.{◌≡◌, refl, sym, ap, ◌∙◌}
+use mathlib.Core.Path.{◌≡◌, refl, ap, ◌∙◌}
 use mathlib.Core.List.{List, ◌++◌, append_assoc}
 use Prim.Native.Nat.{ℕ}
 use native.Mathlib.Omega.{arith}
-use borrow.Author.Rules.{rules}
-use lib.ListN.{length, length-map}
+use lib.ListN.{length}
 use Rattle.sector.proofs.Laws.{over}
 use Rattle.boundary_encoding.specs.Encoding.{head_bytes, count_bytes, places_bytes, record_bytes}
 use Rattle.boundary_encoding.proofs.Laws.{parts_laid}

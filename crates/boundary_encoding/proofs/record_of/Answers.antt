@@ -1,5 +1,4 @@
 -- `record_of` meets its contract: each field is read where `record_of` has it.
-use borrow.Author.Rules.{rules}
 use Rattle.boundary_encoding.specs.Encoding.{record_of}
 use Rattle.boundary_encoding.proofs.record_of.Goals as goal
 

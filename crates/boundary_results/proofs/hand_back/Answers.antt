@@ -1,6 +1,5 @@
 -- `hand_back` meets its contract: the record is laid out where the number is 0, and stays otherwise.
 use mathlib.Core.Path.{◌≡◌, sym, ◌∙◌}
-use borrow.Author.Rules.{rules}
 use borrow.Author.Tests.{eq-eqb, ne_eqb}
 use Rattle.sector.specs.Answers.{number_of}
 use Rattle.boundary_results.specs.Handing.{record_left}

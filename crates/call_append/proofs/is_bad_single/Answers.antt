@@ -1,7 +1,5 @@
 -- `is_bad_single` meets its contract: it tests the type that the byte names, then the span.
 use mathlib.Core.Path.{◌≡◌, sym, ap, ◌∙◌}
-use borrow.Author.Rules.{rules}
-use borrow.Author.Tests.{not-true, not-false}
 use Rattle.sector.specs.declared.Kind.{Kind}
 use Rattle.sector.specs.Types.{item_type, kind_of}
 use Rattle.call_append.specs.Append.{is_single}

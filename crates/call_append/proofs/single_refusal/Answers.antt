@@ -2,8 +2,7 @@
 use mathlib.Core.Path.{◌≡◌, refl, sym, ◌∙◌}
 use mathlib.Core.Bool.{true}
 use mathlib.Core.List.{[], ◌∷◌}
-use borrow.Author.Rules.{rules}
-use borrow.Author.Tests.{lt-ltb, le-ltb, not-true, not-false}
+use borrow.Author.Tests.{lt-ltb, le-ltb}
 use Rattle.page.specs.Writing.{over_free}
 use Rattle.sector.proofs.Laws.{accepted_done, refusal_refused, refusal_passed}
 use Rattle.sector.specs.Answers.{accepted}

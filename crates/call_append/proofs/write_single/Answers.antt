@@ -1,5 +1,4 @@
 -- `write_single` meets its contract: what `write_entries` does of the entry's bytes is the plan.
-use borrow.Author.Rules.{rules}
 use Rattle.page.specs.Writing.{item_plan}
 use Rattle.call_append.specs.Append.{single_plan}
 use Rattle.call_append.proofs.write_single.Goals as goal

@@ -1,6 +1,5 @@
 -- `is_bad_variable` meets its contract: it tests whether the byte's type has a payload, then the namespace.
 use mathlib.Core.Path.{◌≡◌, sym, ap, ◌∙◌}
-use borrow.Author.Rules.{rules}
 use borrow.Author.Tests.{not-true, not-false}
 use Rattle.sector.specs.declared.Kind.{Kind}
 use Rattle.sector.specs.Types.{item_type, has_payload, kind_of}

@@ -2,7 +2,6 @@
 use native.Mathlib.Omega.{arith}
 use Rattle.flash.specs.Flash.{units}
 use Rattle.flash.proofs.Laws.{length-units_le, run_both}
-use borrow.Author.Rules.{rules}
 use Rattle.call_append_variable.proofs.write_header_and_data.Goals as goal
 
 pub overflow_add-result : goal.overflow_add-result

@@ -1,8 +1,7 @@
 -- `call_erase::erase_refusal` meets its contract: the length decides, then the record, its state, and the entries.
 use mathlib.Core.Path.{◌≡◌, sym, ◌∙◌}
 use mathlib.Core.Bool.{true}
-use borrow.Author.Rules.{rules}
-use borrow.Author.Tests.{eq-eqb, ne_eqb, not-true, not-false}
+use borrow.Author.Tests.{eq-eqb, ne_eqb}
 use Rattle.page.specs.Record.{fit_to_use}
 use Rattle.call_erase.proofs.erase_refusal.Goals as goal
 

@@ -1,9 +1,8 @@
 -- `call_erase::with_erased` meets its contract: each field is what its own step ensures, and the entries erased are among those used.
-use mathlib.Core.Path.{◌≡◌, sym, ◌∙◌}
+use mathlib.Core.Path.{◌≡◌}
 use Prim.Native.Nat.{◌≤◌}
 use native.Mathlib.Omega.{arith}
-use borrow.Author.Rules.{rules}
-use lib.ListN.{length, length-map}
+use lib.ListN.{length}
 use Rattle.page.specs.Record.{with_erased}
 use Rattle.page.proofs.Laws.{Fit, fit_clauses}
 use Rattle.call_erase.proofs.Laws.{written_le}

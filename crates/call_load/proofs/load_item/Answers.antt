@@ -3,8 +3,6 @@ use mathlib.Core.Path.{◌≡◌, refl, sym, ◌∙◌}
 use mathlib.Core.Bool.{true}
 use mathlib.Core.List.{List}
 use Prim.Native.Nat.{ℕ}
-use borrow.Author.Rules.{rules}
-use borrow.Author.Tests.{not-true, not-false}
 use Rattle.sector.specs.Answers.{accepted}
 use Rattle.sector.proofs.Laws.{accepted_done}
 use Rattle.call_load.specs.Load.{entry_checks, load_item}

@@ -5,7 +5,6 @@ use mathlib.Core.List.{[], ◌∷◌}
 use Prim.Native.Nat.{ℕ}
 use native.Mathlib.Omega.{arith}
 use lib.ListN.{length, take}
-use borrow.Author.Tests.{not-true, not-false}
 use Rattle.crc.specs.Crc.{crc32}
 use Rattle.flash.specs.Flash.{run, all_ones}
 use Rattle.page.specs.Writing.{stops}
@@ -16,7 +15,6 @@ use Rattle.sector.specs.Answers.{accepted}
 use Rattle.sector.specs.Header.{header_crc, header_body, header_bytes, is_uninitialized}
 use Rattle.sector.specs.Item.{crc_start}
 use Rattle.call_page_state.specs.Calls.{initialise_checks, initialise_plan, initialised, initialise, initialise_image}
-use borrow.Author.Rules.{rules}
 use Rattle.call_page_state.proofs.initialize.Goals as goal
 
 -- the CRC of a new header is that of its body
@@ -58,7 +56,7 @@ returns c =
     accepted_done (initialise_checks z.image.now z.page) refl c.initialize_refusal-refused.ensures c.is_done.ensures in
     let passed : let z = c.args in accepted (initialise_checks z.image.now z.page) ≡ true = tested ∙ c.if-not-is_done.false in
     let written : let z = c.args in let plan = initialise_plan z.sequence in (c.write_aligned-total.result ≡ length plan) × (c.write_aligned-total.new.image ≡ run (take z.stop plan) z.image.now) =
-        (rw (← c.header_bytes-header.ensures) c.write_aligned-total.ensures.total, rw (← c.header_bytes-header.ensures) c.write_aligned-total.ensures.image) in
+    (rw (← c.header_bytes-header.ensures) c.write_aligned-total.ensures.total, rw (← c.header_bytes-header.ensures) c.write_aligned-total.ensures.image) in
     let new = c in
     let write = new in
     let else = write in

@@ -3,8 +3,7 @@ use mathlib.Core.Path.{◌≡◌, sym, ◌∙◌}
 use mathlib.Core.Bool.{true}
 use lib.Dec.{eqb}
 use lib.ListN.{length}
-use borrow.Author.Rules.{rules}
-use borrow.Author.Tests.{eq-eqb, ne_eqb, not-true, not-false}
+use borrow.Author.Tests.{eq-eqb, ne_eqb}
 use Rattle.sector.specs.Header.{is_uninitialized}
 use Rattle.page.specs.Record.{fit_to_use}
 use Rattle.call_page_state.proofs.initialize_refusal.Goals as goal

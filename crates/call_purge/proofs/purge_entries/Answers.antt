@@ -1,6 +1,5 @@
 -- `call_purge::purge_entries` meets its contract: where the index is on the page, the entries of the held span are zeroed.
 use mathlib.Core.Path.{refl}
-use borrow.Author.Rules.{rules}
 use borrow.Author.Tests.{eq-eqb, ne_eqb, lt-ltb, le-ltb}
 use Rattle.flash.specs.Flash.{run}
 use Rattle.call_purge.specs.Purge.{purge, purge_plan, purge_image}

@@ -1,12 +1,9 @@
 -- `call_purge::zero_entries` meets its contract: the entries still to come, zeroed in what there is, are all of them zeroed in the image.
 use mathlib.Core.Path.{◌≡◌, sym, ap, ◌∙◌}
-use mathlib.Core.List.{List}
-use Prim.Native.Nat.{ℕ, suc, ◌+◌, ◌-◌, ◌*◌, ◌≤◌}
+use Prim.Native.Nat.{ℕ, suc, ◌+◌, ◌-◌}
 use native.Mathlib.Omega.{arith}
 use borrow.Author.Rules.{rules}
-use lib.ListN.{length, replicate}
-use Rattle.flash.specs.Flash.{Unit4, units, run}
-use Rattle.sector.specs.Layout.{entry_size, entry_address, sector_size}
+use Rattle.flash.specs.Flash.{units, run}
 use Rattle.call_purge.proofs.Laws.{run_zeros}
 use Rattle.call_purge.proofs.zero_entries.Invariants.{zeros}
 use Rattle.call_purge.proofs.zero_entries.Goals as goal

@@ -6,7 +6,6 @@ use lib.ListN.{replicate}
 use Rattle.flash.specs.Flash.{Unit4, units, run}
 use Rattle.sector.specs.Layout.{entry_size}
 use Rattle.call_purge.proofs.Laws.{take_zeros}
-use borrow.Author.Rules.{rules}
 use Rattle.call_purge.proofs.zero_entry.Goals as goal
 
 pub returns : goal.returns

@@ -2,8 +2,7 @@
 use mathlib.Core.Path.{refl, sym, ap, ◌∙◌}
 use mathlib.Core.Bool.{Bool}
 use mathlib.Core.List.{List}
-use borrow.Author.Rules.{rules}
-use borrow.Author.Tests.{eq-eqb, ne_eqb, not-true, not-false}
+use borrow.Author.Tests.{eq-eqb, ne_eqb}
 use Rattle.flash.specs.Flash.{run}
 use Rattle.call_purge_namespace.specs.PurgeNamespace.{zero_units, purge_namespace_plan, purge_namespace, purge_namespace_image}
 use Rattle.call_purge_namespace.proofs.purge_erased_for_namespace.Goals as goal

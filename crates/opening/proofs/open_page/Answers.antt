@@ -1,7 +1,6 @@
 -- `open_page` meets its contract: no opening has more units than the stop.
 use mathlib.Core.Path.{◌∙◌}
 use native.Mathlib.Omega.{arith}
-use borrow.Author.Rules.{rules}
 use Rattle.opening.proofs.Units.{opening_plain}
 use Rattle.opening.proofs.open_page.Goals as goal
 

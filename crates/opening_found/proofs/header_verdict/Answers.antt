@@ -2,8 +2,7 @@
 use mathlib.Core.Path.{◌≡◌, refl, sym, ap, ◌∙◌}
 use mathlib.Core.Bool.{true, false, not, cond}
 use lib.Dec.{eqb}
-use borrow.Author.Rules.{rules}
-use borrow.Author.Tests.{eq-eqb, ne_eqb, not-true, not-false}
+use borrow.Author.Tests.{eq-eqb, ne_eqb}
 use Rattle.sector.specs.declared.PageState.{PageState}
 use Rattle.sector.specs.declared.PageState.TheVariants.{Uninitialized, Active, Full, Freeing, Corrupt, Invalid}
 use Rattle.sector.specs.Header.{state_of_word, header_crc, is_uninitialized, is_in_use}

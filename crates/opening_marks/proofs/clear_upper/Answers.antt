@@ -1,7 +1,5 @@
 -- `opening_marks::clear_upper` meets its contract: the state that opening leaves is asked first, then whether the entry is a refused header.
 use mathlib.Core.Path.{◌≡◌, sym, ap, ◌∙◌}
-use borrow.Author.Rules.{rules}
-use borrow.Author.Tests.{not-true, not-false}
 use Rattle.sector.specs.declared.EntryMapState.{EntryMapState}
 use Rattle.sector.specs.declared.EntryMapState.TheVariants.{Erased}
 use Rattle.sector.specs.Map.{state_at, same_state}

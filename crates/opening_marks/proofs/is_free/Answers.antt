@@ -1,7 +1,5 @@
 -- `opening_marks::is_free` meets its contract: the entry's bytes are looked at where it is Empty.
 use mathlib.Core.Path.{◌≡◌, sym, ap, ◌∙◌}
-use borrow.Author.Rules.{rules}
-use borrow.Author.Tests.{not-true, not-false}
 use Rattle.sector.specs.Map.{state_at}
 use Rattle.opening_reading.specs.Reading.{is_empty}
 use Rattle.opening_marks.proofs.is_free.Goals as goal

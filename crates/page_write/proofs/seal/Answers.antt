@@ -1,7 +1,6 @@
 -- `page_write::seal` meets its contract: marks, then the state word with what they leave of the budget, or no state word.
 use mathlib.Core.List.{append-nil}
 use native.Mathlib.Omega.{arith}
-use borrow.Author.Rules.{rules}
 use borrow.Author.Tests.{eq-eqb, ne_eqb}
 use Rattle.flash.specs.Flash.{units}
 use Rattle.sector.specs.declared.PageState.TheVariants.{Full}

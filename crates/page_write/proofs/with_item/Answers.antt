@@ -2,7 +2,6 @@
 use native.Mathlib.Omega.{arith}
 use Rattle.page.specs.Record.{with_item}
 use Rattle.page.proofs.Laws.{fit_clauses}
-use borrow.Author.Rules.{rules}
 use Rattle.page_write.proofs.with_item.Goals as goal
 
 pub list_after-list-requires : goal.list_after-list-requires

@@ -2,7 +2,6 @@
 use mathlib.Core.List.{◌++◌}
 use Prim.Native.Nat.{◌+◌}
 use native.Mathlib.Omega.{arith}
-use borrow.Author.Rules.{rules}
 use Rattle.flash.specs.Flash.{units}
 use Rattle.flash.proofs.Laws.{length-units_le, run_both}
 use Rattle.sector.specs.Map.{map_units}

@@ -1,7 +1,6 @@
 -- `sector_item::loads` meets its contract: each call gives the part of `loads` that it is named after.
 use mathlib.Core.Path.{◌≡◌, sym, ◌∙◌}
 use mathlib.Core.Bool.{false}
-use borrow.Author.Rules.{rules}
 use Rattle.flash.specs.Flash.{all_ones}
 use Rattle.sector.specs.Item.{known_type, loads}
 use Rattle.sector_item.proofs.loads.Goals as goal

@@ -1,6 +1,5 @@
 -- `sector_item::sized_data` meets its contract: the CRC is laid over the last four of eight bytes, whose first two are the size.
 use mathlib.Core.Path.{ap, ◌∙◌}
-use borrow.Author.Rules.{rules}
 use Rattle.crc.specs.Crc.{crc32}
 use Rattle.sector.specs.Layout.{little_endian}
 use Rattle.sector.specs.Item.{sized_data}

@@ -1,5 +1,4 @@
 -- `kept::with_listed` meets its contract: the place after the last gets the item's hash and index.
-use borrow.Author.Rules.{rules}
 use borrow.Author.Tests.{eq-eqb, ne_eqb}
 use Rattle.sector.specs.Layout.{namespace_of}
 use Rattle.opening.proofs.kept.with_listed.Goals as goal

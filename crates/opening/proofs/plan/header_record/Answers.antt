@@ -2,7 +2,6 @@
 use mathlib.Core.Path.{◌≡◌, ap, ◌∙◌}
 use Prim.Native.Nat.{◌+◌}
 use native.Mathlib.Omega.{arith}
-use borrow.Author.Rules.{rules}
 use Rattle.sector.specs.Header.{state_of_word}
 use Rattle.sector.specs.Map.{statistics}
 use Rattle.sector.proofs.Laws.{statistics_sum}

@@ -1,8 +1,7 @@
 -- `page::fit::fit_to_use` meets its contract: each `return` is the first clause of `fit_to_use` that fails, or the last.
 use mathlib.Core.Path.{◌≡◌, sym, ap, ◌∙◌}
 use mathlib.Core.Bool.{◌&&◌}
-use borrow.Author.Rules.{rules}
-use borrow.Author.Tests.{le-leb, lt-leb, not-true, not-false}
+use borrow.Author.Tests.{le-leb, lt-leb}
 use Rattle.sector.specs.declared.EntryMapState.TheVariants.{Written}
 use Rattle.sector.specs.declared.Statistics.{Statistics}
 use Rattle.sector.specs.Map.{states_of, count_in, statistics}

@@ -1,5 +1,4 @@
 -- `page::fit::is_blank` meets its contract: each `return` is the first test of `is_blank` that fails, or the last.
-use borrow.Author.Rules.{rules}
 use borrow.Author.Tests.{eq-eqb, ne_eqb}
 use Rattle.page.proofs.fit.is_blank.Goals as goal
 
