@@ -29,7 +29,7 @@ use Rattle.opening.specs.Opening.{is_refused_item, refused_headers, listed_items
 use Rattle.opening.specs.Steps.{marked_by, listing_of, with_listed, listed_by}
 use Rattle.opening_reading.proofs.Entries.{states_from, states_past}
 use Rattle.opening_reading.proofs.Midway.{both_written}
-use Rattle.opening_reading.proofs.Steps.{kept_usable, verdict_of, states_behind, steps_inside, steps_states, steps_entries, here, after, walk_from, kept_from}
+use Rattle.opening_reading.proofs.Steps.{kept_usable, verdict_of, states_behind, steps_inside, steps_states, steps_entries, here, after, walk_from, kept_from_lem}
 
 -- ---- lists done so far
 
@@ -264,13 +264,13 @@ module _ (image map : List ℕ) (listing : Listing) (i : ℕ) (long : length map
 
   listed_kept : (k : ℕ) → verdict_of image map i ≡ Kept k → (zeroth : Bool) → eqb (namespace_of (entry_at image i)) 0 ≡ zeroth
       → ListedTo image map (with_listed i (entry_at image i) listing) (i + 1 + k)
-  listed_kept k e true plain = rw plain (listed_same (Kept k) e (ap listed_items (rw e at (kept_from image map i long inside)) ∙ rw plain))
+  listed_kept k e true plain = rw plain (listed_same (Kept k) e (ap listed_items (rw e at (kept_from_lem image map i long inside)) ∙ rw plain))
   listed_kept k e false named =
       let all = listed_items (kept_from zero zero (states_of map) (entries_of image)) in
       let place : Listed = record { hash = hash_of_item (entry_at image i); index = i } in
       let rest = listed_items (kept_from zero (i + 1 + k) (drop (i + 1 + k) (states_of map)) (drop (i + 1 + k) (entries_of image))) in
       let within = to.within in
-      let left : drop listing.len all ≡ place ∷ rest = to.left ∙ ap listed_items (rw e at (kept_from image map i long inside)) ∙ rw named in
+      let left : drop listing.len all ≡ place ∷ rest = to.left ∙ ap listed_items (rw e at (kept_from_lem image map i long inside)) ∙ rw named in
       rw named
       record {
         places = listing_more all rest listing place (omega arith) to.places left;
@@ -279,7 +279,7 @@ module _ (image map : List ℕ) (listing : Listing) (i : ℕ) (long : length map
       }
 
   pub listed_step : (v : Verdict) → verdict_of image map i ≡ v → ListedTo image map (listed_by v i (entry_at image i) listing) (i + 1 + steps_over v)
-  listed_step NotAnItem e = listed_same NotAnItem e (ap listed_items (rw e at (kept_from image map i long inside)))
-  listed_step (RefusedEntry reason) e = listed_same (RefusedEntry reason) e (ap listed_items (rw e at (kept_from image map i long inside)))
-  listed_step (RefusedItem reason k) e = listed_same (RefusedItem reason k) e (ap listed_items (rw e at (kept_from image map i long inside)))
+  listed_step NotAnItem e = listed_same NotAnItem e (ap listed_items (rw e at (kept_from_lem image map i long inside)))
+  listed_step (RefusedEntry reason) e = listed_same (RefusedEntry reason) e (ap listed_items (rw e at (kept_from_lem image map i long inside)))
+  listed_step (RefusedItem reason k) e = listed_same (RefusedItem reason k) e (ap listed_items (rw e at (kept_from_lem image map i long inside)))
   listed_step (Kept k) e = listed_kept k e (eqb (namespace_of (entry_at image i)) 0) refl

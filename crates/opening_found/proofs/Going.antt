@@ -14,7 +14,7 @@ use Rattle.opening_reading.specs.declared.Verdict.{Verdict}
 use Rattle.opening_reading.specs.declared.Verdict.TheVariants.{NotAnItem, RefusedEntry, RefusedItem, Kept}
 use Rattle.opening_reading.specs.Reading.{Item, item, steps_over}
 use Rattle.opening_reading.proofs.Entries.{entries_from, states_past}
-use Rattle.opening_reading.proofs.Steps.{verdict_of, steps_inside, kept_from}
+use Rattle.opening_reading.proofs.Steps.{verdict_of, steps_inside, kept_from_lem}
 use Rattle.opening_found.specs.Found.{At, End, items_from, next_of, next_kept, found_from, MeetsEveryItem, GoesOn}
 
 -- ---- the items from an entry on
@@ -37,13 +37,13 @@ module _ (image map : List ℕ) (from : ℕ) (long : length map ≡ 32) (inside 
       → items_from image map from ≡ item from (take (suc k) (drop from (entries_of image))) ∷ items_from image map (from + suc k)
   items_here k e =
       let on : from + 1 + k ≡ from + suc k = omega arith in
-      (rw e at (kept_from image map from long inside))
+      (rw e at (kept_from_lem image map from long inside))
       ∙ ap₂ (λ (entries : List (List ℕ)) (next : ℕ). item from (take (suc k) entries) ∷ items_from image map next) (sym (entries_from image from inside)) on
 
   items_further : {v : Verdict} → Passed v → verdict_of image map from ≡ v → items_from image map from ≡ items_from image map (from + 1 + steps_over v)
-  items_further no_item e = rw e at (kept_from image map from long inside)
-  items_further (bad_entry reason) e = rw e at (kept_from image map from long inside)
-  items_further (bad_item reason k) e = rw e at (kept_from image map from long inside)
+  items_further no_item e = rw e at (kept_from_lem image map from long inside)
+  items_further (bad_entry reason) e = rw e at (kept_from_lem image map from long inside)
+  items_further (bad_item reason k) e = rw e at (kept_from_lem image map from long inside)
 
 -- ---- the answer at an entry
 

@@ -8,6 +8,7 @@ use mathlib.Core.Bool.{true, false, ◌&&◌}
 use mathlib.Core.List.{List, [], ◌∷◌}
 use mathlib.Core.Option.{some}
 use Prim.Native.Nat.{ℕ, zero, suc}
+use native.Mathlib.Nat.{suc_inj}
 use lib.ListN.{length, take}
 use Rattle.flash.specs.Flash.{all_ones}
 use Rattle.sector.specs.declared.EntryMapState.{EntryMapState}
@@ -93,11 +94,17 @@ pub data AllGone : ℕ → States → Type 0 where
   gone_zero : {mid : States} → AllGone zero mid
   gone_suc : {k : ℕ} {s : EntryMapState} {mid : States} → Gone s → AllGone k mid → AllGone (suc k) (s ∷ mid)
 
+-- the mark of what is stepped over, where the two walks step over alike
+midway_gone_at : {mid old : States} {bytes entries : Entries} (j k : ℕ) → j ≡ k → AllGone k mid → Midway j k Erased mid old bytes entries
+    → Midway zero k Erased mid old bytes entries
+midway_gone_at zero k e a m = m
+midway_gone_at (suc j) zero e a m = elim m [ ]
+midway_gone_at (suc j) (suc k) e (gone_suc g a) (erases_behind s t other entry m) = gone_behind t other entry g (midway_gone_at j k (suc_inj e) a m)
+
 -- then it makes no difference whether the walk steps over them
 pub midway_gone : {mid old : States} {bytes entries : Entries} (k : ℕ) → AllGone k mid → Midway k k Erased mid old bytes entries
     → Midway zero k Erased mid old bytes entries
-midway_gone zero a m = m
-midway_gone (suc k) (gone_suc g a) (erases_behind s t other entry m) = gone_behind t other entry g (midway_gone k a m)
+midway_gone k a m = midway_gone_at k k refl a m
 
 -- ---- the walk comes out alike
 

@@ -130,12 +130,12 @@ module _ (image map : List ℕ) (i : ℕ) (long : length map ≡ 32) (inside : i
       (walk_skip (steps_over v) (mark_behind v) (drop (i + 1) (states_of map)) (drop (i + 1) (entries_of image)) steps_states steps_entries
       ∙ after (λ ss es. replicate (steps_over v) (mark_behind v) ++ walk zero Erased ss es) (steps_over v))
 
-  pub kept_from :
+  pub kept_from_lem :
       let v = verdict_of image map i in
       kept_from zero i (drop i (states_of map)) (drop i (entries_of image))
       ≡ with_kept v i (entry_at image i) (drop (i + 1) (entries_of image))
       (kept_from zero (i + 1 + steps_over v) (drop (i + 1 + steps_over v) (states_of map)) (drop (i + 1 + steps_over v) (entries_of image)))
-  kept_from =
+  kept_from_lem =
       let v = verdict_of image map i in
       let entries = drop (i + 1) (entries_of image) in
       here (kept_from zero i)

@@ -12,14 +12,14 @@ use Rattle.boundary_encoding.proofs.put_record.Goals as goal
 
 pub put-requires-2 : goal.put-requires-2
 put-requires-2 c =
-    let map_long : length c.args.page.map ≡ 32 = sym (length-map c.args.page.map (λ byte. byte)) ∙ c.well_formed.0.1.1.1.1.1.1.0.1.0.1 in
+    let map_long : length c.args.page.map ≡ 32 = c.well_formed.0.1.1.1.1.1.1.0.1.0.1 in
     let long = map_long in
-    omega (arith, long, c.put.auto.0)
+    omega (arith, long, c.put.auto.out)
 
 pub returns : goal.returns
 unfolding record_bytes
 returns c =
-    let map_long : length c.args.page.map ≡ 32 = sym (length-map c.args.page.map (λ byte. byte)) ∙ c.well_formed.0.1.1.1.1.1.1.0.1.0.1 in
+    let map_long : length c.args.page.map ≡ 32 = c.well_formed.0.1.1.1.1.1.1.0.1.0.1 in
     let placed = c in
     let third = placed in
     let second = third in

@@ -19,20 +19,6 @@ use Rattle.call_copy.specs.Copy.{copy_checks, copy_plan, with_copy, copy_in, cop
 use Rattle.call_copy.proofs.Laws.{CopyFits, copy_fits, plan_copied, with_copied}
 use Rattle.call_copy.proofs.copy_item_from.Goals as goal
 
--- what was written is copy's plan
-planned :
-    units (entry_address (slot c).get-next-free-entry.result) (take ((end c) - (first c)) (drop (first c) (source (passed c))))
-    ++ (map_units (slot c).get-next-free-entry.result (span_of (read c).entry_at.result) (new c).with_item.result.map
-    ++ full_units ((slot c).get-next-free-entry.result + span_of (read c).entry_at.result)) ≡ (plan c)
-
-planned =
-    plan_copied (page (passed c)) (new c).with_item.result (source (passed c)) (read c).entry_at.result (index (passed c)) _ (first c) (end c) _
-    (read c).entry_at.ensures
-    (new c).with_item.ensures
-    (slot c).get-next-free-entry.ensures
-    c.before.before.before.before.entry-address.ensures
-    c.before.before.before.entry-address2.ensures
-
 pub returns-then-not-is_done : goal.returns-then-not-is_done
 unfolding copy_in copy_in_image
 returns-then-not-is_done c =
@@ -112,6 +98,24 @@ entry_address-end-requires c =
     omega arith in
     spans.1
 
+pub slice_bounds-write_entries-end : goal.slice_bounds-write_entries-end
+slice_bounds-write_entries-end c =
+    let image : List ℕ = c.args.image.now in
+    let page : Page = c.args.page in
+    let source : List ℕ = c.args.source.now in
+    let index : ℕ = c.args.index in
+    let checked : accepted (copy_checks image page source index) ≡ c.is_done.result = accepted_done (copy_checks image page source index) refl c.copy_refusal-refused.ensures c.is_done.ensures in
+    let accepts : accepted (copy_checks image page source index) ≡ true = checked ∙ c.if-not-is_done.false in
+    let fits : CopyFits image page source index = copy_fits _ _ _ _ accepts in
+    let spans : let n = span_of c.entry_at-entry.result in (1 ≤ n) × (index + n ≤ entries_per_page) × (next_free page + n ≤ entries_per_page) = let fit = fits in
+    let same = ap span_of c.entry_at-entry.ensures in
+    omega arith in
+    let read = c in
+    let fit = fits in
+    let behind = spans in
+    let end = c.entry_address-end.ensures in
+    omega arith
+
 pub write_entries-total-requires : goal.write_entries-total-requires
 write_entries-total-requires c =
     let source : List ℕ = c.args.source.now in
@@ -124,10 +128,8 @@ write_entries-total-requires c =
     let spans : let n = span_of c.entry_at-entry.result in (1 ≤ n) × (index + n ≤ entries_per_page) × (next_free page + n ≤ entries_per_page) = let fit = fits in
     let same = ap span_of c.entry_at-entry.ensures in
     omega arith in
-    let first : ℕ = c.entry_address-first.result in
-    let end : ℕ = c.entry_address-end.result in
     let read = c in
-    let behind = spans
+    let behind = spans in
     let first = c.entry_address-first in
     let end = c.entry_address-end in (
       fits.whole,
@@ -146,6 +148,14 @@ returns c =
     let checked : accepted (copy_checks image page source index) ≡ c.is_done.result = accepted_done (copy_checks image page source index) refl c.copy_refusal-refused.ensures c.is_done.ensures in
     let accepts : accepted (copy_checks image page source index) ≡ true = checked ∙ c.if-not-is_done.false in
     let plan : List Unit4 = copy_plan page source index in
+    let first : ℕ = c.entry_address-first.result in
+    let end : ℕ = c.entry_address-end.result in
+    let planned : units (entry_address c.get_next_free_entry-start.result) (take (end - first) (drop first source)) ++ (map_units c.get_next_free_entry-start.result (span_of c.entry_at-entry.result) c.with_item-new.result.map ++ full_units (c.get_next_free_entry-start.result + span_of c.entry_at-entry.result)) ≡ plan = plan_copied page c.with_item-new.result source c.entry_at-entry.result index _ first end _
+    c.entry_at-entry.ensures
+    c.with_item-new.ensures
+    c.get_next_free_entry-start.ensures
+    c.entry_address-first.ensures
+    c.entry_address-end.ensures in
     let total : c.write_entries-total.result ≡ length plan = c.write_entries-total.ensures.total ∙ ap length planned in
     let programmed : c.write_entries-total.new.image ≡ run (take c.args.stop plan) image = c.write_entries-total.ensures.image ∙ ap (λ (units : List Unit4). run (take c.args.stop units) image) planned in
     let copied : c.with_item-new.result ≡ with_copy page source index = c.with_item-new.ensures

@@ -24,7 +24,7 @@ returns-then-not-is_done c =
     let record_checks : List Check = bad_record c.args.page ∷ not_active c.args.page ∷ [] in
     let recorded : accepted record_checks ≡ c.is_done.result = accepted_done record_checks refl c.active_refusal-refused.ensures c.is_done.ensures in
     let checks : List Check = copy_checks c.args.image.now c.args.page c.args.source.now c.args.index in
-    let decided : refusal checks ≡ cond (accepted record_checks) (refusal (drop 4 checks)) (refusal record_checks) = rw (eq-eqb _ _ c.if-image-ne-SECTOR_SIZE.left, eq-eqb _ _ c.if-source-ne-SECTOR_SIZE.left) (refusal_append record_checks (drop 4 checks)) in
+    let decided : refusal checks ≡ cond (accepted record_checks) (refusal (drop 4 checks)) (refusal record_checks) = rw (eq-eqb _ _ c.if-image-ne-SECTOR_SIZE.false, eq-eqb _ _ c.if-source-ne-SECTOR_SIZE.false) (refusal_append record_checks (drop 4 checks)) in
     let at = c in
     at.active_refusal-refused.ensures ∙ sym (decided ∙ rw (recorded ∙ c.if-not-is_done.true))
 
@@ -33,7 +33,7 @@ returns-then-index-ge-ENTRIES_PER_PAGE c =
     let record_checks : List Check = bad_record c.args.page ∷ not_active c.args.page ∷ [] in
     let recorded : accepted record_checks ≡ c.is_done.result = accepted_done record_checks refl c.active_refusal-refused.ensures c.is_done.ensures in
     let checks : List Check = copy_checks c.args.image.now c.args.page c.args.source.now c.args.index in
-    let decided : refusal checks ≡ cond (accepted record_checks) (refusal (drop 4 checks)) (refusal record_checks) = rw (eq-eqb _ _ c.if-image-ne-SECTOR_SIZE.left, eq-eqb _ _ c.if-source-ne-SECTOR_SIZE.left) (refusal_append record_checks (drop 4 checks)) in
+    let decided : refusal checks ≡ cond (accepted record_checks) (refusal (drop 4 checks)) (refusal record_checks) = rw (eq-eqb _ _ c.if-image-ne-SECTOR_SIZE.false, eq-eqb _ _ c.if-source-ne-SECTOR_SIZE.false) (refusal_append record_checks (drop 4 checks)) in
     let at = c in
     sym (decided ∙ rw (recorded ∙ c.if-not-is_done.false, le-ltb _ _ c.if-index-ge-ENTRIES_PER_PAGE.true))
 
@@ -42,7 +42,7 @@ returns c =
     let record_checks : List Check = bad_record c.args.page ∷ not_active c.args.page ∷ [] in
     let recorded : accepted record_checks ≡ c.is_done.result = accepted_done record_checks refl c.active_refusal-refused.ensures c.is_done.ensures in
     let checks : List Check = copy_checks c.args.image.now c.args.page c.args.source.now c.args.index in
-    let decided : refusal checks ≡ cond (accepted record_checks) (refusal (drop 4 checks)) (refusal record_checks) = rw (eq-eqb _ _ c.if-image-ne-SECTOR_SIZE.left, eq-eqb _ _ c.if-source-ne-SECTOR_SIZE.left) (refusal_append record_checks (drop 4 checks)) in
+    let decided : refusal checks ≡ cond (accepted record_checks) (refusal (drop 4 checks)) (refusal record_checks) = rw (eq-eqb _ _ c.if-image-ne-SECTOR_SIZE.false, eq-eqb _ _ c.if-source-ne-SECTOR_SIZE.false) (refusal_append record_checks (drop 4 checks)) in
     let entered = c in
     let at = entered in
     let accepts = recorded ∙ entered.if-not-is_done.false in

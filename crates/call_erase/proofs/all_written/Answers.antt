@@ -13,8 +13,6 @@ use Rattle.call_erase.specs.Erase.{all_written}
 use Rattle.call_erase.proofs.Laws.{written_next}
 use Rattle.call_erase.proofs.all_written.Goals as goal
 
-)
-
 pub loop-i-init : goal.loop-i-init
 loop-i-init c =
     let args = c.args in
@@ -41,10 +39,10 @@ loop-i-preserved c =
   omega arith,
   search rules,
   sym (turn ∙ ap (λ (here : Bool). here && behind) (c.if-not-is_written.false)),
+)
 
 pub returns : goal.returns
 returns c =
-    let i : ℕ = c.loop-i.i in
     let start = c in
     let i = c.loop-i.i in
     let none : start.args.index + start.args.span - i ≡ 0 = omega arith in

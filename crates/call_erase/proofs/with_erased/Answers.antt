@@ -17,7 +17,7 @@ without-places-requires c =
 pub overflow_sub-result : goal.overflow_sub-result
 overflow_sub-result c =
     let fit : Fit c.args.page = fit_clauses c.args.page c.requires.0 in
-    let long : length c.args.page.map ≡ 32 = sym (length-map c.args.page.map (λ byte. byte)) ∙ c.well_formed.0.1.1.1.1.1.1.0.1.0.1 in
+    let long : length c.args.page.map ≡ 32 = c.well_formed.0.1.1.1.1.1.1.0.1.0.1 in
     let used : c.args.span ≤ c.args.page.used = let clauses = fit in
     omega (arith, written_le c.args.page.map c.args.index c.args.span long c.requires.1 c.requires.2) in
     used
@@ -25,7 +25,7 @@ overflow_sub-result c =
 pub overflow_add-result : goal.overflow_add-result
 overflow_add-result c =
     let fit : Fit c.args.page = fit_clauses c.args.page c.requires.0 in
-    let long : length c.args.page.map ≡ 32 = sym (length-map c.args.page.map (λ byte. byte)) ∙ c.well_formed.0.1.1.1.1.1.1.0.1.0.1 in
+    let long : length c.args.page.map ≡ 32 = c.well_formed.0.1.1.1.1.1.1.0.1.0.1 in
     let used : c.args.span ≤ c.args.page.used = let clauses = fit in
     omega (arith, written_le c.args.page.map c.args.index c.args.span long c.requires.1 c.requires.2) in
     let start = c in

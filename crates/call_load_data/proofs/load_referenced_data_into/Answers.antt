@@ -32,7 +32,6 @@ returns-then-not-is_done c =
     let answered : c.load_item-loaded.result.answer ≡ refusal (load_checks image index) = ap (λ (r : Loaded). r.answer) c.load_item-loaded.ensures
     ∙ loaded_or_answer (load_checks image index) entry in
     let checked : accepted (load_checks image index) ≡ c.is_done.result = accepted_done (load_checks image index) refl answered c.is_done.ensures in
-    let first : ℕ = c.entry_address-start.result in
     let at = c in
     let refused = checked ∙ c.if-not-is_done.true in
     let all = accepted_append (load_checks image index) (payload_checks entry index room) in
@@ -55,7 +54,7 @@ payload_refusal-refusal-requires c =
     (load_fits image index loads).1
 
 pub returns-then-not-is_done-2 : goal.returns-then-not-is_done-2
-unfolding data_answer data_output load_item load_item
+unfolding data_answer data_output load_item
 returns-then-not-is_done-2 c =
     let image : List ℕ = c.args.image.now in
     let index : ℕ = c.args.index in
@@ -81,7 +80,7 @@ returns-then-not-is_done-2 c =
     }
 
 pub overflow_add-index : goal.overflow_add-index
-unfolding load_item load_item
+unfolding load_item
 overflow_add-index c =
     let image : List ℕ = c.args.image.now in
     let index : ℕ = c.args.index in
@@ -103,7 +102,7 @@ overflow_add-index c =
     let fit = fits in omega arith
 
 pub entry_address-start-requires : goal.entry_address-start-requires
-unfolding load_item load_item
+unfolding load_item
 entry_address-start-requires c =
     let image : List ℕ = c.args.image.now in
     let index : ℕ = c.args.index in
@@ -125,7 +124,7 @@ entry_address-start-requires c =
     let fit = fits in omega arith
 
 pub overflow_add-end : goal.overflow_add-end
-unfolding load_item load_item
+unfolding load_item
 overflow_add-end c =
     let image : List ℕ = c.args.image.now in
     let index : ℕ = c.args.index in
@@ -155,8 +154,39 @@ overflow_add-end c =
     omega arith in
     let h = inside in omega arith
 
+pub slice_bounds-copy_to-end : goal.slice_bounds-copy_to-end
+unfolding load_item
+slice_bounds-copy_to-end c =
+    let image : List ℕ = c.args.image.now in
+    let index : ℕ = c.args.index in
+    let room : ℕ = length c.args.output.now in
+    let entry : List ℕ = entry_at image index in
+    let answered : c.load_item-loaded.result.answer ≡ refusal (load_checks image index) = ap (λ (r : Loaded). r.answer) c.load_item-loaded.ensures
+    ∙ loaded_or_answer (load_checks image index) entry in
+    let checked : accepted (load_checks image index) ≡ c.is_done.result = accepted_done (load_checks image index) refl answered c.is_done.ensures in
+    let loads : accepted (load_checks image index) ≡ true = checked ∙ c.if-not-is_done.false in
+    let checks : List Check = payload_checks entry index room in
+    let item_loaded : c.load_item-loaded.result.item ≡ entry = ap (λ (r : Loaded). r.item) c.load_item-loaded.ensures
+    ∙ loaded_or_item (load_checks image index) entry loads in
+    let payload_answered : c.payload_refusal-refusal.result ≡ refusal checks = c.payload_refusal-refusal.ensures
+    ∙ ap (λ (e : List ℕ). refusal (payload_checks e index room)) item_loaded in
+    let all_checked : accepted (data_checks image index room) ≡ c.is_done-2.result = rw (accepted_append (load_checks image index) checks, loads)
+    (accepted_done checks refl payload_answered c.is_done-2.ensures) in
+    let accepts : accepted (data_checks image index room) ≡ true = all_checked ∙ c.if-not-is_done-2.false in
+    let fits : DataFits image index room = data_fits _ _ _ accepts in
+    let size : ℕ = size_of entry in
+    let sized : c.size_of-size.result ≡ size = c.size_of-size.ensures.0 ∙ ap size_of item_loaded in
+    let rounded : c.rounded_up.result ≡ rounded_up size = c.rounded_up.ensures ∙ ap rounded_up sized in
+    let first : ℕ = c.entry_address-start.result in
+    let inside : (first + c.rounded_up.result ≤ length image) × (c.rounded_up.result ≤ room) = let fit = fits in
+    let lies = data_inside image index room fit in
+    let is = rounded in
+    let at = c.entry_address-start.ensures in
+    omega arith in
+    inside.0
+
 pub copy_to-requires : goal.copy_to-requires
-unfolding load_item load_item
+unfolding load_item
 copy_to-requires c =
     let image : List ℕ = c.args.image.now in
     let first : ℕ = c.entry_address-start.result in
@@ -191,7 +221,7 @@ copy_to-requires c =
     omega arith
 
 pub returns : goal.returns
-unfolding data_answer data_output load_item load_item
+unfolding data_answer data_output load_item
 returns c =
     let image : List ℕ = c.args.image.now in
     let index : ℕ = c.args.index in

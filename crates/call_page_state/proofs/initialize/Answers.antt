@@ -57,7 +57,8 @@ returns c =
     let tested : let z = c.args in accepted (initialise_checks z.image.now z.page) ≡ c.is_done.result = let z = c.args in
     accepted_done (initialise_checks z.image.now z.page) refl c.initialize_refusal-refused.ensures c.is_done.ensures in
     let passed : let z = c.args in accepted (initialise_checks z.image.now z.page) ≡ true = tested ∙ c.if-not-is_done.false in
-    let written : let z = c.args in let plan = initialise_plan z.sequence in (c.write_aligned-total.result ≡ length plan) × (c.write_aligned-total.new.image ≡ run (take z.stop plan) z.image.now) = rw (← c.header_bytes-header.ensures) c.write_aligned-total.ensures in
+    let written : let z = c.args in let plan = initialise_plan z.sequence in (c.write_aligned-total.result ≡ length plan) × (c.write_aligned-total.new.image ≡ run (take z.stop plan) z.image.now) =
+        (rw (← c.header_bytes-header.ensures) c.write_aligned-total.ensures.total, rw (← c.header_bytes-header.ensures) c.write_aligned-total.ensures.image) in
     let new = c in
     let write = new in
     let else = write in
