@@ -21,13 +21,20 @@ pub(crate) struct Replayed {
     pub(crate) tally: Tally,
 }
 
+fn same(first: &[u8], second: &[u8]) -> bool
+    ensures yes { result ≡ true → first.now ≡ second.now }
+    ensures no { first.now ≡ second.now → result ≡ true }
+{
+    first == second
+}
+
 // Whether the call left what the file has: the buffers that a call may change are compared.
 fn agrees(all: &[u8], left: &[u8]) -> bool
     requires { length all.now ≡ all_size }
     ensures yes { result ≡ true → take changed_size all.now ≡ left.now }
     ensures no { take changed_size all.now ≡ left.now → result ≡ true }
 {
-    &all[IMAGE..CHANGED] == left
+    same(&all[IMAGE..CHANGED], left)
 }
 
 fn end<R: Read>(file: &mut R, open: bool) -> io::Result<Status> {
