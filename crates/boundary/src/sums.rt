@@ -8,16 +8,14 @@ use crate::{ANSWER_SIZE, BAD_CALL, KEY_SIZE, NO_ITEM};
 use sector::{Answer, ENTRY_SIZE, bytes};
 
 // The CRC of the data from a start value.
-#[unsafe(no_mangle)]
-pub extern "C" fn nvs_crc32(start: u32, bytes: &[u8]) -> u32
+pub fn nvs_crc32(start: u32, bytes: &[u8]) -> u32
     ensures { result ≡ crc32 start bytes.now }
 {
     crc::crc32(start, bytes)
 }
 
 // The CRC over bytes 0..4 and 8..32 of an item as it stands (`item_crc`).
-#[unsafe(no_mangle)]
-pub extern "C" fn nvs_item_crc(bytes: &[u8], buffer: &mut [u8]) -> u32
+pub fn nvs_item_crc(bytes: &[u8], buffer: &mut [u8]) -> u32
     ensures number { result ≡ (item_crc_given bytes.now buffer.old).number }
     ensures buffer { buffer.new ≡ (item_crc_given bytes.now buffer.old).buffer }
 {
@@ -32,8 +30,7 @@ pub extern "C" fn nvs_item_crc(bytes: &[u8], buffer: &mut [u8]) -> u32
 }
 
 // The CRC over bytes 4..28 of a page's header as it stands (`header_crc`).
-#[unsafe(no_mangle)]
-pub extern "C" fn nvs_header_crc(bytes: &[u8], buffer: &mut [u8]) -> u32
+pub fn nvs_header_crc(bytes: &[u8], buffer: &mut [u8]) -> u32
     ensures number { result ≡ (header_crc_given bytes.now buffer.old).number }
     ensures buffer { buffer.new ≡ (header_crc_given bytes.now buffer.old).buffer }
 {
@@ -48,8 +45,7 @@ pub extern "C" fn nvs_header_crc(bytes: &[u8], buffer: &mut [u8]) -> u32
 }
 
 // The 24-bit hash of namespace, key and chunk (`calculate_hash`).
-#[unsafe(no_mangle)]
-pub extern "C" fn nvs_hash(namespace: u8, key: &[u8], chunk: u8, buffer: &mut [u8]) -> u32
+pub fn nvs_hash(namespace: u8, key: &[u8], chunk: u8, buffer: &mut [u8]) -> u32
     ensures number { result ≡ (hash_given namespace key.now chunk buffer.old).number }
     ensures buffer { buffer.new ≡ (hash_given namespace key.now chunk buffer.old).buffer }
 {
@@ -64,8 +60,7 @@ pub extern "C" fn nvs_hash(namespace: u8, key: &[u8], chunk: u8, buffer: &mut [u
 }
 
 // The byte, or 0xFF where it is none of the thirteen types.
-#[unsafe(no_mangle)]
-pub extern "C" fn nvs_type_byte(byte: u8) -> u8
+pub fn nvs_type_byte(byte: u8) -> u8
     ensures { result ≡ type_byte byte }
 {
     sector_types::type_byte(byte)

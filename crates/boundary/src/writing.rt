@@ -11,8 +11,7 @@ use call_append::{Single, Variable};
 use sector::{answers, bytes};
 
 // Opens a page (`open_page`); the record is only written, and on a refusal it is the Uninitialized one.
-#[unsafe(no_mangle)]
-pub extern "C" fn nvs_open(image: &mut [u8], buffer: &mut [u8]) -> u32
+pub fn nvs_open(image: &mut [u8], buffer: &mut [u8]) -> u32
     ensures number { result ≡ (open_left image.old buffer.old).number }
     ensures image { image.new ≡ (open_left image.old buffer.old).image }
     ensures buffer { buffer.new ≡ (open_left image.old buffer.old).buffer }
@@ -25,8 +24,7 @@ pub extern "C" fn nvs_open(image: &mut [u8], buffer: &mut [u8]) -> u32
 }
 
 // Opens a page (`open_stopped`), stopped after `stop` units where it has more; the record is the Uninitialized one then.
-#[unsafe(no_mangle)]
-pub extern "C" fn nvs_open_stopped(image: &mut [u8], buffer: &mut [u8], stop: u64) -> u32
+pub fn nvs_open_stopped(image: &mut [u8], buffer: &mut [u8], stop: u64) -> u32
     ensures number { result ≡ (open_stopped_left image.old buffer.old stop).number }
     ensures image { image.new ≡ (open_stopped_left image.old buffer.old stop).image }
     ensures buffer { buffer.new ≡ (open_stopped_left image.old buffer.old stop).buffer }
@@ -39,13 +37,7 @@ pub extern "C" fn nvs_open_stopped(image: &mut [u8], buffer: &mut [u8], stop: u6
 }
 
 // Writes the header of a new page (`initialize`), stopped after `stop` units where it has more.
-#[unsafe(no_mangle)]
-pub extern "C" fn nvs_initialise(
-    image: &mut [u8],
-    buffer: &mut [u8],
-    sequence: u32,
-    stop: u64,
-) -> u32
+pub fn nvs_initialise(image: &mut [u8], buffer: &mut [u8], sequence: u32, stop: u64) -> u32
     ensures number { result ≡ (initialise_left image.old buffer.old sequence stop).number }
     ensures image { image.new ≡ (initialise_left image.old buffer.old sequence stop).image }
     ensures buffer { buffer.new ≡ (initialise_left image.old buffer.old sequence stop).buffer }
@@ -59,8 +51,7 @@ pub extern "C" fn nvs_initialise(
 }
 
 // Writes the state word Full (`mark_as_full`).
-#[unsafe(no_mangle)]
-pub extern "C" fn nvs_mark_full(image: &mut [u8], buffer: &mut [u8]) -> u32
+pub fn nvs_mark_full(image: &mut [u8], buffer: &mut [u8]) -> u32
     ensures number { result ≡ (mark_full_left image.old buffer.old).number }
     ensures image { image.new ≡ (mark_full_left image.old buffer.old).image }
     ensures buffer { buffer.new ≡ (mark_full_left image.old buffer.old).buffer }
@@ -74,8 +65,7 @@ pub extern "C" fn nvs_mark_full(image: &mut [u8], buffer: &mut [u8]) -> u32
 }
 
 // Appends a single entry (`write_item`), stopped after `stop` units where it has more.
-#[unsafe(no_mangle)]
-pub extern "C" fn nvs_append_single(
+pub fn nvs_append_single(
     image: &mut [u8],
     buffer: &mut [u8],
     namespace: u8,
@@ -113,8 +103,7 @@ pub extern "C" fn nvs_append_single(
 }
 
 // Appends a namespace entry (`write_namespace`), stopped after `stop` units where it has more.
-#[unsafe(no_mangle)]
-pub extern "C" fn nvs_append_namespace(
+pub fn nvs_append_namespace(
     image: &mut [u8],
     buffer: &mut [u8],
     key: &[u8],
@@ -138,8 +127,7 @@ pub extern "C" fn nvs_append_namespace(
 }
 
 // Appends data (`write_variable_sized_item`), stopped after `stop` units where it has more.
-#[unsafe(no_mangle)]
-pub extern "C" fn nvs_append_variable(
+pub fn nvs_append_variable(
     image: &mut [u8],
     buffer: &mut [u8],
     namespace: u8,
@@ -177,14 +165,7 @@ pub extern "C" fn nvs_append_variable(
 }
 
 // Copies an item from another sector (`copy_item_from`), stopped after `stop` units where it has more.
-#[unsafe(no_mangle)]
-pub extern "C" fn nvs_copy_in(
-    image: &mut [u8],
-    buffer: &mut [u8],
-    source: &[u8],
-    index: u64,
-    stop: u64,
-) -> u32
+pub fn nvs_copy_in(image: &mut [u8], buffer: &mut [u8], source: &[u8], index: u64, stop: u64) -> u32
     ensures number { result ≡ (copy_left image.old buffer.old source.now index stop).number }
     ensures image { image.new ≡ (copy_left image.old buffer.old source.now index stop).image }
     ensures buffer { buffer.new ≡ (copy_left image.old buffer.old source.now index stop).buffer }
@@ -198,8 +179,7 @@ pub extern "C" fn nvs_copy_in(
 }
 
 // Marks the entries of an item Erased (`erase_item`).
-#[unsafe(no_mangle)]
-pub extern "C" fn nvs_erase(image: &mut [u8], buffer: &mut [u8], index: u64, span: u64) -> u32
+pub fn nvs_erase(image: &mut [u8], buffer: &mut [u8], index: u64, span: u64) -> u32
     ensures number { result ≡ (erase_left image.old buffer.old index span).number }
     ensures image { image.new ≡ (erase_left image.old buffer.old index span).image }
     ensures buffer { buffer.new ≡ (erase_left image.old buffer.old index span).buffer }
@@ -213,8 +193,7 @@ pub extern "C" fn nvs_erase(image: &mut [u8], buffer: &mut [u8], index: u64, spa
 }
 
 // Zeroes entries from an index on (`purge_entries`).
-#[unsafe(no_mangle)]
-pub extern "C" fn nvs_purge(image: &mut [u8], index: u64, span: u64) -> u32
+pub fn nvs_purge(image: &mut [u8], index: u64, span: u64) -> u32
     ensures number { result ≡ number_of (purge image.old) }
     ensures image { image.new ≡ purge_image image.old index span }
 {
@@ -223,8 +202,7 @@ pub extern "C" fn nvs_purge(image: &mut [u8], index: u64, span: u64) -> u32
 }
 
 // Zeroes the Erased items of a namespace (`purge_erased_for_namespace`).
-#[unsafe(no_mangle)]
-pub extern "C" fn nvs_purge_namespace(image: &mut [u8], buffer: &mut [u8], namespace: u8) -> u32
+pub fn nvs_purge_namespace(image: &mut [u8], buffer: &mut [u8], namespace: u8) -> u32
     ensures number { result ≡ (purge_namespace_left image.old buffer.old namespace).number }
     ensures image { image.new ≡ (purge_namespace_left image.old buffer.old namespace).image }
     ensures buffer { buffer.new ≡ (purge_namespace_left image.old buffer.old namespace).buffer }

@@ -1,4 +1,6 @@
 // CRC-32 as the ESP ROM computes it (`software_crc32` of the Rust), eight bytes at a time, each nibble looked up.
+#![tactic(auto)]
+
 ghost use Rattle.std.specs.Prelude.{◌≡◌, ◌+◌, ◌%◌, ◌<◌, ◌≤◌, length, take, drop};
 ghost use Rattle.crc.specs.Crc.{shifts, intake, register, crc32};
 ghost use Rattle.crc_tables.specs.Nibble.{loaded_word};

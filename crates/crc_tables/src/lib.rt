@@ -1,6 +1,8 @@
 // A nibble after 4, 8, .., 64 shifts: the shifts that the nibbles of eight bytes have to go.
 //
 // Each table is a `match`, which is compiled to read-only data. A `const` array would be put together on the stack at each call.
+#![tactic(auto)]
+
 ghost use Rattle.std.specs.Prelude.{◌≡◌, [], ◌∷◌, ◌<◌, ◌%◌, get_or};
 ghost use Rattle.crc_tables.specs.Nibble.{with_bit, spread, nibble};
 

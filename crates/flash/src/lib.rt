@@ -1,4 +1,6 @@
 // Programming a sector in four-byte units: old AND new, a padded tail, and a stop after n units (raw.rs `write_aligned`).
+#![tactic(auto)]
+
 ghost use Rattle.std.specs.Prelude.{◌≡◌, ◌+◌, ◌-◌, ◌*◌, ◌≤◌, min, length, take};
 ghost use Rattle.flash.specs.Flash.{all_ones, program, units, run};
 

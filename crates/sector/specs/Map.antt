@@ -1,7 +1,7 @@
 -- The entry map (01, 'The sector'): two bits an entry, entry i at bit 2 * (i mod 4) of map byte i / 4.
 --
 -- In order: the states and their bits; the state of an entry; all 126 states; what `get_entry_state` and `get_entry_statistics` answer; setting a range.
-use Rattle.std.specs.Prelude.{◌≡◌, refl, Bool, cond, List, [], ◌∷◌, ℕ, zero, suc, ◌+◌, ◌-◌, ◌*◌, ◌/◌, ◌%◌, ◌^◌, eqb, ltb, take, get_or, set}
+use Rattle.std.specs.Prelude.{Bool, cond, List, [], ◌∷◌, ℕ, zero, suc, ◌+◌, ◌-◌, ◌*◌, ◌/◌, ◌%◌, ◌^◌, eqb, ltb, take, get_or, set}
 use Rattle.std.specs.Int.Bits.{bit_and}
 use Rattle.flash.specs.Flash.{Unit4, units}
 use Rattle.sector.specs.declared.Answer.TheVariants.{Done, CorruptedData}

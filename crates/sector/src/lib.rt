@@ -2,6 +2,7 @@
 //
 // The definitions of all of it are in specs/. The functions of the header, of the map, of the item types and of items are
 // the crates `sector_header`, `sector_map`, `sector_types`, `sector_item` and `sector_hash`.
+#![tactic(auto)]
 
 pub mod answers;
 pub mod bytes;

@@ -34,7 +34,7 @@ use Rattle.theorem_power_cut.proofs.AtHand.{page_of}
 -- ---- without an index
 
 -- where no item has it
-without_none : {items : List Item} {low high : ℕ} (index : ℕ) → ((i : ℕ) → low ≤ i → i < high → i ≡ index → ⊥) → Indices low high items → without_item index items ≡ items
+without_none : {low high : ℕ} {items : List Item} (index : ℕ) → ((i : ℕ) → low ≤ i → i < high → i ≡ index → ⊥) → Indices low high items → without_item index items ≡ items
 without_none index apart indices_nil = refl
 without_none index apart (indices_cons i entries l u rest) =
     rw (ne_eqb i index (apart i l u)) (ap (λ (others : List Item). item i entries ∷ others) (without_none index apart rest))

@@ -22,6 +22,10 @@ pub data OneOf (s t : EntryMapState) : EntryMapState → Type 0 where
   the_old : OneOf s t s
   the_new : OneOf s t t
 
+one_of_alike : {s t m : EntryMapState} → s ≡ t → OneOf s t m → m ≡ s
+one_of_alike e the_old = refl
+one_of_alike e the_new = sym e
+
 pub one_of_same : {s m : EntryMapState} → OneOf s s m → m ≡ s
 one_of_same the_old = refl
 one_of_same the_new = refl
@@ -37,10 +41,16 @@ pub length_mix : {old new mid : States} → Mix old new mid → length mid ≡ l
 length_mix mix_nil = refl
 length_mix (mix_cons o m) = ap suc (length_mix m)
 
+mix_alike : {old new mid : States} → old ≡ new → Mix old new mid → mid ≡ old
+mix_alike e mix_nil = refl
+mix_alike e (mix_cons {s = s} {t = t} {old = old} {new = new} o m) =
+    let same : s ≡ t = cc in
+    let rest : old ≡ new = cc in
+    ap₂ (λ (s : EntryMapState) (states : States). s ∷ states) (one_of_alike same o) (mix_alike rest m)
+
 -- where nothing changes
 pub mix_same : {states mid : States} → Mix states states mid → mid ≡ states
-mix_same mix_nil = refl
-mix_same (mix_cons o m) = ap₂ (λ (s : EntryMapState) (states : States). s ∷ states) (one_of_same o) (mix_same m)
+mix_same m = mix_alike refl m
 
 -- a mix of lists in two parts is in two parts, each a mix of theirs
 pub record MixParted (old back new behind mid : States) : Type 0 where

@@ -5,7 +5,6 @@ use native.Mathlib.Omega.{arith}
 use lib.ListN.{length, take, drop, length-take, take-append-drop}
 use Rattle.crc.specs.Crc.{register, not32, crc32}
 use Rattle.crc.proofs.Laws.{register_append, take_rest}
-use borrow.Author.Rules.{rules}
 use Rattle.crc.proofs.crc32.Goals as goal
 
 pub slice_bounds-intake_blocks-end : goal.slice_bounds-intake_blocks-end

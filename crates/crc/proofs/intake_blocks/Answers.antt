@@ -1,6 +1,6 @@
 -- `crc::intake_blocks` meets its contract: what is left of the blocks gives, from the register so far, what all of them give from the start.
-use mathlib.Core.Path.{◌≡◌, refl, sym, ap, ap₂, ◌∙◌}
-use Prim.Native.Nat.{ℕ, ◌+◌, ◌-◌, ◌%◌, ◌≤◌}
+use mathlib.Core.Path.{refl, sym, ap, ap₂, ◌∙◌}
+use Prim.Native.Nat.{ℕ, ◌+◌, ◌≤◌}
 use native.Mathlib.Omega.{arith}
 use lib.Bits.{bit_xor}
 use lib.ListN.{length, drop, drop_of_length-le}

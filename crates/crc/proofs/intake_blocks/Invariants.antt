@@ -1,12 +1,8 @@
 -- `crc::intake_blocks` meets its contract: what is left of the blocks gives, from the register so far, what all of them give from the start.
-use mathlib.Core.Path.{◌≡◌, refl, sym, ap, ap₂, ◌∙◌}
-use Prim.Native.Nat.{ℕ, ◌+◌, ◌-◌, ◌%◌, ◌≤◌}
-use native.Mathlib.Omega.{arith}
-use lib.Bits.{bit_xor}
-use lib.ListN.{length, drop, drop_of_length-le}
-use borrow.Author.Rules.{rules}
-use Rattle.crc.specs.Crc.{shifts, register}
-use Rattle.crc.proofs.Laws.{register_block}
+use mathlib.Core.Path.{◌≡◌}
+use Prim.Native.Nat.{◌-◌, ◌%◌, ◌≤◌}
+use lib.ListN.{length, drop}
+use Rattle.crc.specs.Crc.{register}
 use Rattle.crc.proofs.intake_blocks.Given as goal
 
 abbrev pub invariant-loop-at : goal.invariant-loop-at

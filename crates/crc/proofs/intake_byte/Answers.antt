@@ -5,7 +5,6 @@ use native.Mathlib.Omega.{arith}
 use lib.Bits.{bit_xor}
 use Rattle.crc.specs.Crc.{intake, shifts}
 use Rattle.crc.proofs.Nibbles.{nibble_xor}
-use borrow.Author.Rules.{rules}
 use Rattle.crc.proofs.intake_byte.Goals as goal
 
 pub returns : goal.returns

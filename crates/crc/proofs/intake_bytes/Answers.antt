@@ -1,6 +1,6 @@
 -- `crc::intake_bytes` meets its contract: what is left of the bytes gives, from the register so far, what all of them give from the start.
-use mathlib.Core.Path.{◌≡◌, refl, sym, ap, ap₂, ◌∙◌}
-use Prim.Native.Nat.{ℕ, ◌-◌, ◌≤◌, ◌<◌}
+use mathlib.Core.Path.{refl, sym, ap, ap₂, ◌∙◌}
+use Prim.Native.Nat.{ℕ, ◌≤◌, ◌<◌}
 use native.Mathlib.Omega.{arith}
 use native.Mathlib.Numerals.{add-one}
 use lib.ListN.{length, drop, drop_of_length-le}

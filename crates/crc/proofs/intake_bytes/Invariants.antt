@@ -1,12 +1,8 @@
 -- `crc::intake_bytes` meets its contract: what is left of the bytes gives, from the register so far, what all of them give from the start.
-use mathlib.Core.Path.{◌≡◌, refl, sym, ap, ap₂, ◌∙◌}
-use Prim.Native.Nat.{ℕ, ◌-◌, ◌≤◌, ◌<◌}
-use native.Mathlib.Omega.{arith}
-use native.Mathlib.Numerals.{add-one}
-use lib.ListN.{length, drop, drop_of_length-le}
-use lib.Seq.{drop-cons}
+use mathlib.Core.Path.{◌≡◌}
+use Prim.Native.Nat.{◌-◌, ◌≤◌}
+use lib.ListN.{length, drop}
 use Rattle.crc.specs.Crc.{register}
-use borrow.Author.Rules.{rules}
 use Rattle.crc.proofs.intake_bytes.Given as goal
 
 abbrev pub invariant-loop-at : goal.invariant-loop-at

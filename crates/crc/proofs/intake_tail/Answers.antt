@@ -6,7 +6,6 @@ use lib.Bits.{bit_xor}
 use lib.ListN.{length}
 use Rattle.crc.specs.Crc.{shifts, register}
 use Rattle.crc.proofs.Laws.{register_drop, take_rest}
-use borrow.Author.Rules.{rules}
 use Rattle.crc.proofs.intake_tail.Goals as goal
 
 pub returns : goal.returns

@@ -2,7 +2,6 @@
 use Prim.Native.Nat.{◌+◌}
 use native.Mathlib.Omega.{arith}
 use Rattle.crc.proofs.Laws.{number_cons}
-use borrow.Author.Rules.{rules}
 use Rattle.crc.proofs.load_word.Goals as goal
 
 pub returns : goal.returns

@@ -1,7 +1,6 @@
 -- `crc::shift_32` meets its contract: the nibbles of the word are looked up one by one.
 use native.Mathlib.Omega.{arith}
 use Rattle.crc.proofs.Nibbles.{word_nibbles}
-use borrow.Author.Rules.{rules}
 use Rattle.crc.proofs.shift_32.Goals as goal
 
 pub returns : goal.returns

@@ -1,7 +1,6 @@
 -- `crc::shift_64` meets its contract: the nibbles of the word are looked up one by one.
 use native.Mathlib.Omega.{arith}
 use Rattle.crc.proofs.Nibbles.{word_nibbles}
-use borrow.Author.Rules.{rules}
 use Rattle.crc.proofs.shift_64.Goals as goal
 
 pub returns : goal.returns

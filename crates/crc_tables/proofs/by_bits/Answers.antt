@@ -6,7 +6,6 @@ use native.Mathlib.Nat.{zero-add, add-zero, add-suc, suc-add, le_of_suc-le-suc, 
 use native.Mathlib.Omega.{arith}
 use lib.ListN.{get_or}
 use Rattle.crc_tables.specs.Nibble.{with_bit, spread}
-use borrow.Author.Rules.{rules}
 use Rattle.crc_tables.proofs.by_bits.Goals as goal
 
 -- f k, f (k + 1), .., n of them

@@ -2,7 +2,7 @@
 use mathlib.Core.Path.{◌≡◌, refl, ◌∙◌}
 use mathlib.Core.Bool.{◌&&◌, and_assoc, and-true}
 use mathlib.Core.List.{List}
-use Prim.Native.Nat.{ℕ, suc, ◌≤◌, ◌<◌, ◌+◌, ◌-◌}
+use Prim.Native.Nat.{ℕ, suc, ◌<◌, ◌+◌}
 use native.Mathlib.Omega.{arith}
 use native.Mathlib.Numerals.{add-one}
 use lib.ListN.{length, get_or, drop}

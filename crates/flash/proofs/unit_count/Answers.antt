@@ -4,7 +4,6 @@ use Prim.Native.Nat.{◌*◌, ◌-◌, ◌/◌}
 use native.Mathlib.Omega.{arith}
 use lib.ListN.{length, drop, length-drop}
 use lib.Seq.{take_all}
-use borrow.Author.Rules.{rules}
 use Rattle.flash.specs.Flash.{all_ones}
 use Rattle.flash.proofs.Laws.{length_units}
 use Rattle.flash.proofs.unit_count.Goals as goal

@@ -6,7 +6,6 @@ use native.Mathlib.Decide.{dec_le}
 use native.Mathlib.Omega.{arith}
 use lib.ListN.{length, take}
 use lib.Seq.{take_all, length-take-le}
-use borrow.Author.Rules.{rules}
 use Rattle.flash.specs.Flash.{program}
 use Rattle.flash.proofs.Laws.{bytes_of_get_d, run_take_units, length-units_at}
 use Rattle.flash.proofs.write_aligned.Goals as goal

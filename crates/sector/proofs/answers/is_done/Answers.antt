@@ -1,5 +1,4 @@
 -- `answers::is_done` meets its contract: it compares the answer's number.
-use borrow.Author.Rules.{rules}
 use Rattle.sector.proofs.answers.is_done.Goals as goal
 
 pub returns : goal.returns

@@ -4,7 +4,6 @@ use mathlib.Core.List.{List, [], ◌∷◌}
 use Prim.Native.Nat.{ℕ, ◌+◌, ◌≤◌}
 use native.Mathlib.Omega.{arith}
 use native.Mathlib.Nat.{add_assoc}
-use borrow.Author.Rules.{rules}
 use lib.ListN.{length, get_or}
 use Rattle.sector.specs.Layout.{number, field}
 use Rattle.sector.proofs.Laws.{field_cons}

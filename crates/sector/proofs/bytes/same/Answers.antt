@@ -1,10 +1,7 @@
 -- `bytes::same` meets its contract: the bytes passed are the same, so those after them decide.
-use mathlib.Core.Path.{◌≡◌, refl, sym, ◌∙◌}
-use Prim.Native.Nat.{◌≤◌, ◌-◌}
+use mathlib.Core.Path.{refl, sym, ◌∙◌}
 use native.Mathlib.Omega.{arith}
 use borrow.Author.Rules.{rules}
-use lib.ListN.{length, drop}
-use Rattle.sector.specs.Layout.{same_bytes}
 use Rattle.sector.proofs.Laws.{same_bytes-length, same_bytes_pass, same_bytes_differ, same_bytes_end}
 use Rattle.sector.proofs.bytes.same.Goals as goal
 

@@ -2,7 +2,6 @@
 use mathlib.Core.Path.{◌≡◌, ap₂, ◌∙◌}
 use Prim.Native.Nat.{ℕ, ◌+◌, ◌-◌}
 use native.Mathlib.Omega.{arith}
-use borrow.Author.Rules.{rules}
 use lib.ListN.{take, drop}
 use Rattle.sector.proofs.layout.entry_at.Goals as goal
 

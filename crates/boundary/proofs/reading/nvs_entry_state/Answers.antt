@@ -1,0 +1,72 @@
+-- `nvs_entry_state` meets its contract: a wrong size changes nothing, else the call's answer is laid out.
+use mathlib.Core.Path.{refl, ap, ◌∙◌}
+use borrow.Author.Rules.{rules}
+use mathlib.Core.List.{List}
+use Prim.Native.Nat.{ℕ}
+use Rattle.sector.specs.declared.StateAnswer.{StateAnswer}
+use Rattle.sector.specs.Map.{bits_of, entry_state}
+use Rattle.boundary_encoding.specs.Encoding.{zero_item}
+use Rattle.boundary.specs.Boundary.{state_given}
+use Rattle.boundary.proofs.Laws.{wrong_size_lem, right_size, given_of}
+use Rattle.boundary.proofs.reading.nvs_entry_state.Goals as goal
+
+pub returns-then-buffer-ne-ANSWER_SIZE : goal.returns-then-buffer-ne-ANSWER_SIZE
+unfolding state_given
+returns-then-buffer-ne-ANSWER_SIZE c =
+    rw (wrong_size_lem 57 _ c.if-buffer-ne-ANSWER_SIZE.true) (record {
+      number = refl;
+      buffer = refl;
+    })
+
+pub returns-then-bytes-ne-MAP_SIZE : goal.returns-then-bytes-ne-MAP_SIZE
+unfolding state_given
+returns-then-bytes-ne-MAP_SIZE c =
+    rw (right_size 57 _ c.if-buffer-ne-ANSWER_SIZE.false, wrong_size_lem 32 _ c.if-bytes-ne-MAP_SIZE.true) (record {
+      number = refl;
+      buffer = refl;
+    })
+
+pub array_32-requires : goal.array_32-requires
+unfolding state_given
+array_32-requires c =
+    search rules
+
+pub get_entry_state-found-requires : goal.get_entry_state-found-requires
+unfolding state_given
+get_entry_state-found-requires c =
+    search rules
+
+pub bits_of-requires : goal.bits_of-requires
+unfolding state_given
+bits_of-requires c =
+    search rules
+
+pub overflow_cast-bits_of : goal.overflow_cast-bits_of
+unfolding state_given
+overflow_cast-bits_of c =
+    search rules
+
+pub give-requires : goal.give-requires
+unfolding state_given
+give-requires c =
+    search rules
+
+pub shape_of-buffer : goal.shape_of-buffer
+unfolding state_given
+shape_of-buffer c =
+    search rules
+
+pub returns : goal.returns
+unfolding state_given
+returns c =
+    let gave = c in
+    let bits = gave in
+    let found = bits in
+    let array = found in
+    let past = array in
+    let index = past.args.index in
+    let state = found.get_entry_state-found.ensures ∙ ap (λ (map : List ℕ). entry_state map index) array.array_32.ensures in
+    rw (right_size 57 _ past.if-buffer-ne-ANSWER_SIZE.false, right_size 32 _ past.if-bytes-ne-MAP_SIZE.false)
+    (let both = given_of (λ (s : StateAnswer). s.answer) (λ s. bits_of s.state) (λ s. zero_item) state
+    (gave.give.ensures.number, rw bits.bits_of.ensures at gave.give.ensures.buffer) in
+    record { number = both.0; buffer = both.1 })

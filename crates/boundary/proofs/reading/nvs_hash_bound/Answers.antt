@@ -1,0 +1,73 @@
+-- `nvs_hash_bound` meets its contract: a wrong size changes nothing, else the call's answer is laid out.
+use mathlib.Core.Path.{refl, ap, ap₂, ◌∙◌}
+use borrow.Author.Rules.{rules}
+use Prim.Native.Nat.{ℕ}
+use Rattle.call_hash_bound.specs.Bound.{hash_bound}
+use Rattle.boundary_encoding.specs.Encoding.{answer_bytes, zero_item, no_counts}
+use Rattle.boundary.specs.Boundary.{bound_given}
+use Rattle.boundary.proofs.Laws.{wrong_size_lem, right_size}
+use Rattle.boundary.proofs.reading.nvs_hash_bound.Goals as goal
+
+pub returns-then-buffer-ne-ANSWER_SIZE : goal.returns-then-buffer-ne-ANSWER_SIZE
+unfolding bound_given
+returns-then-buffer-ne-ANSWER_SIZE c =
+    rw (wrong_size_lem 57 _ c.if-buffer-ne-ANSWER_SIZE.true) (record {
+      number = refl;
+      buffer = refl;
+    })
+
+pub returns-then-bytes-ne-MAP_SIZE : goal.returns-then-bytes-ne-MAP_SIZE
+unfolding bound_given
+returns-then-bytes-ne-MAP_SIZE c =
+    rw (right_size 57 _ c.if-buffer-ne-ANSWER_SIZE.false, wrong_size_lem 32 _ c.if-bytes-ne-MAP_SIZE.true) (record {
+      number = refl;
+      buffer = refl;
+    })
+
+pub returns-then-entries-ne-ENTRIES_SIZE : goal.returns-then-entries-ne-ENTRIES_SIZE
+unfolding bound_given
+returns-then-entries-ne-ENTRIES_SIZE c =
+    rw (right_size 57 _ c.if-buffer-ne-ANSWER_SIZE.false, right_size 32 _ c.if-bytes-ne-MAP_SIZE.false, wrong_size_lem 4032 _ c.if-entries-ne-ENTRIES_SIZE.true) (record {
+      number = refl;
+      buffer = refl;
+    })
+
+pub array_32-requires : goal.array_32-requires
+unfolding bound_given
+array_32-requires c =
+    search rules
+
+pub entries_of-requires : goal.entries_of-requires
+unfolding bound_given
+entries_of-requires c =
+    search rules
+
+pub hashed_item_bound-count-requires : goal.hashed_item_bound-count-requires
+unfolding bound_given
+hashed_item_bound-count-requires c =
+    search rules
+
+pub give-requires : goal.give-requires
+unfolding bound_given
+give-requires c =
+    search rules
+
+pub shape_of-buffer : goal.shape_of-buffer
+unfolding bound_given
+shape_of-buffer c =
+    search rules
+
+pub returns : goal.returns
+unfolding bound_given
+returns c =
+    let gave = c in
+    let bound = gave in
+    let cut = bound in
+    let array = cut in
+    let past = array in
+    rw (right_size 57 _ past.if-buffer-ne-ANSWER_SIZE.false, right_size 32 _ past.if-bytes-ne-MAP_SIZE.false, right_size 4032 _ past.if-entries-ne-ENTRIES_SIZE.false) (record {
+      number = gave.give.ensures.number;
+      buffer = gave.give.ensures.buffer
+          ∙ ap (λ (value : ℕ). answer_bytes 0 value zero_item no_counts)
+          (bound.hashed_item_bound-count.ensures ∙ ap₂ hash_bound array.array_32.ensures cut.entries_of.ensures);
+    })

@@ -1,0 +1,57 @@
+-- `nvs_statistics` meets its contract: a wrong size changes nothing, else the call's answer is laid out.
+use mathlib.Core.Path.{refl, ap, ◌∙◌}
+use borrow.Author.Rules.{rules}
+use Rattle.sector.specs.Map.{statistics}
+use Rattle.boundary_encoding.specs.Encoding.{answer_bytes, zero_item}
+use Rattle.boundary.specs.Boundary.{statistics_given}
+use Rattle.boundary.proofs.Laws.{wrong_size_lem, right_size}
+use Rattle.boundary.proofs.reading.nvs_statistics.Goals as goal
+
+pub returns-then-buffer-ne-ANSWER_SIZE : goal.returns-then-buffer-ne-ANSWER_SIZE
+unfolding statistics_given
+returns-then-buffer-ne-ANSWER_SIZE c =
+    rw (wrong_size_lem 57 _ c.if-buffer-ne-ANSWER_SIZE.true) (record {
+      number = refl;
+      buffer = refl;
+    })
+
+pub returns-then-bytes-ne-MAP_SIZE : goal.returns-then-bytes-ne-MAP_SIZE
+unfolding statistics_given
+returns-then-bytes-ne-MAP_SIZE c =
+    rw (right_size 57 _ c.if-buffer-ne-ANSWER_SIZE.false, wrong_size_lem 32 _ c.if-bytes-ne-MAP_SIZE.true) (record {
+      number = refl;
+      buffer = refl;
+    })
+
+pub array_32-requires : goal.array_32-requires
+unfolding statistics_given
+array_32-requires c =
+    search rules
+
+pub get_entry_statistics-counts-requires : goal.get_entry_statistics-counts-requires
+unfolding statistics_given
+get_entry_statistics-counts-requires c =
+    search rules
+
+pub put_answer-requires : goal.put_answer-requires
+unfolding statistics_given
+put_answer-requires c =
+    search rules
+
+pub shape_of-buffer : goal.shape_of-buffer
+unfolding statistics_given
+shape_of-buffer c =
+    search rules
+
+pub returns : goal.returns
+unfolding statistics_given
+returns c =
+    let put = c in
+    let counted = put in
+    let array = counted in
+    let past = array in
+    rw (right_size 57 _ past.if-buffer-ne-ANSWER_SIZE.false, right_size 32 _ past.if-bytes-ne-MAP_SIZE.false) (record {
+      number = refl;
+      buffer = put.put_answer.ensures
+          ∙ ap (answer_bytes 0 0 zero_item) (counted.get_entry_statistics-counts.ensures ∙ ap statistics array.array_32.ensures);
+    })

@@ -1,0 +1,46 @@
+-- `nvs_width` meets its contract: a wrong size changes nothing, else the call's answer is laid out.
+use mathlib.Core.Path.{refl}
+use borrow.Author.Rules.{rules}
+use Rattle.sector.specs.declared.WidthAnswer.{WidthAnswer}
+use Rattle.boundary_encoding.specs.Encoding.{zero_item}
+use Rattle.boundary.specs.Boundary.{width_given}
+use Rattle.boundary.proofs.Laws.{wrong_size_lem, right_size, given_of}
+use Rattle.boundary.proofs.reading.nvs_width.Goals as goal
+
+pub returns-then-buffer-ne-ANSWER_SIZE : goal.returns-then-buffer-ne-ANSWER_SIZE
+unfolding width_given
+returns-then-buffer-ne-ANSWER_SIZE c =
+    rw (wrong_size_lem 57 _ c.if-buffer-ne-ANSWER_SIZE.true) (record {
+      number = refl;
+      buffer = refl;
+    })
+
+pub get_primitive_bytes_width-found-requires : goal.get_primitive_bytes_width-found-requires
+unfolding width_given
+get_primitive_bytes_width-found-requires c =
+    search rules
+
+pub overflow_cast-found : goal.overflow_cast-found
+unfolding width_given
+overflow_cast-found c =
+    search rules
+
+pub give-requires : goal.give-requires
+unfolding width_given
+give-requires c =
+    search rules
+
+pub shape_of-buffer : goal.shape_of-buffer
+unfolding width_given
+shape_of-buffer c =
+    search rules
+
+pub returns : goal.returns
+unfolding width_given
+returns c =
+    let gave = c in
+    let found = gave in
+    let past = found in
+    rw (right_size 57 _ past.if-buffer-ne-ANSWER_SIZE.false)
+    (let both = given_of (λ (w : WidthAnswer). w.answer) (λ w. w.width) (λ w. zero_item) found.get_primitive_bytes_width-found.ensures (gave.give.ensures.number, gave.give.ensures.buffer) in
+    record { number = both.0; buffer = both.1 })

@@ -1,0 +1,83 @@
+-- `nvs_append_single` meets its contract: a wrong size changes nothing, else the call's answer is handed back with its record.
+use mathlib.Core.Path.{refl}
+use borrow.Author.Rules.{rules}
+use Rattle.call_append.specs.Append.{append_single, append_single_image}
+use Rattle.boundary.specs.Boundary.{single_of, single_left}
+use Rattle.boundary.proofs.Laws.{wrong_size_lem, right_size, called_over}
+use Rattle.boundary.proofs.writing.nvs_append_single.Goals as goal
+
+pub returns-then-buffer-ne-RECORD_SIZE : goal.returns-then-buffer-ne-RECORD_SIZE
+unfolding single_left
+returns-then-buffer-ne-RECORD_SIZE c =
+    rw (wrong_size_lem 675 _ c.if-buffer-ne-RECORD_SIZE.true) (record {
+      number = refl;
+      image = refl;
+      buffer = refl;
+    })
+
+pub returns-then-key-ne-KEY_SIZE : goal.returns-then-key-ne-KEY_SIZE
+unfolding single_left
+returns-then-key-ne-KEY_SIZE c =
+    rw (right_size 675 _ c.if-buffer-ne-RECORD_SIZE.false, wrong_size_lem 16 _ c.if-key-ne-KEY_SIZE.true) (record {
+      number = refl;
+      image = refl;
+      buffer = refl;
+    })
+
+pub returns-then-bytes-ne-SINGLE_SIZE : goal.returns-then-bytes-ne-SINGLE_SIZE
+unfolding single_left
+returns-then-bytes-ne-SINGLE_SIZE c =
+    rw (right_size 675 _ c.if-buffer-ne-RECORD_SIZE.false, right_size 16 _ c.if-key-ne-KEY_SIZE.false, wrong_size_lem 8 _ c.if-bytes-ne-SINGLE_SIZE.true) (record {
+      number = refl;
+      image = refl;
+      buffer = refl;
+    })
+
+pub array_16-requires : goal.array_16-requires
+unfolding single_left
+array_16-requires c =
+    search rules
+
+pub array_8-requires : goal.array_8-requires
+unfolding single_left
+array_8-requires c =
+    search rules
+
+pub record_of-page-requires : goal.record_of-page-requires
+unfolding single_left
+record_of-page-requires c =
+    search rules
+
+pub write_item-outcome-requires : goal.write_item-outcome-requires
+unfolding single_left
+write_item-outcome-requires c =
+    search rules
+
+pub hand_back-requires : goal.hand_back-requires
+unfolding single_left
+hand_back-requires c =
+    search rules
+
+pub shape_of-image : goal.shape_of-image
+unfolding single_left
+shape_of-image c =
+    search rules
+
+pub shape_of-buffer : goal.shape_of-buffer
+unfolding single_left
+shape_of-buffer c =
+    search rules
+
+pub returns : goal.returns
+unfolding single_left
+returns c =
+    let handed = c in
+    let called = handed in
+    let read = called in
+    let past = read in
+    let z = past.args in
+    let item = single_of z.namespace z.kind z.span z.chunk z.key.now z.bytes.now in
+    rw (right_size 675 _ past.if-buffer-ne-RECORD_SIZE.false, right_size 16 _ past.if-key-ne-KEY_SIZE.false, right_size 8 _ past.if-bytes-ne-SINGLE_SIZE.false)
+    (let both = called_over (λ page. append_single z.image.now page item z.stop) (λ page. append_single_image z.image.now page item z.stop) z.buffer.now
+    read.record_of-page.ensures (rw (read.array_16.ensures, read.array_8.ensures) at called.write_item-outcome.ensures.answer, rw (read.array_16.ensures, read.array_8.ensures) at called.write_item-outcome.ensures.image) (handed.hand_back.ensures.number, handed.hand_back.ensures.buffer) in
+    record { number = both.0; image = both.1.0; buffer = both.1.1 })

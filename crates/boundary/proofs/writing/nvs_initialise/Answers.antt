@@ -1,0 +1,54 @@
+-- `nvs_initialise` meets its contract: a wrong size changes nothing, else the call's answer is handed back with its record.
+use mathlib.Core.Path.{refl}
+use borrow.Author.Rules.{rules}
+use Rattle.call_page_state.specs.Calls.{initialise, initialise_image}
+use Rattle.boundary.specs.Boundary.{initialise_left}
+use Rattle.boundary.proofs.Laws.{wrong_size_lem, right_size, called_over}
+use Rattle.boundary.proofs.writing.nvs_initialise.Goals as goal
+
+pub returns-then-buffer-ne-RECORD_SIZE : goal.returns-then-buffer-ne-RECORD_SIZE
+unfolding initialise_left
+returns-then-buffer-ne-RECORD_SIZE c =
+    rw (wrong_size_lem 675 _ c.if-buffer-ne-RECORD_SIZE.true) (record {
+      number = refl;
+      image = refl;
+      buffer = refl;
+    })
+
+pub record_of-page-requires : goal.record_of-page-requires
+unfolding initialise_left
+record_of-page-requires c =
+    search rules
+
+pub initialize-outcome-requires : goal.initialize-outcome-requires
+unfolding initialise_left
+initialize-outcome-requires c =
+    search rules
+
+pub hand_back-requires : goal.hand_back-requires
+unfolding initialise_left
+hand_back-requires c =
+    search rules
+
+pub shape_of-image : goal.shape_of-image
+unfolding initialise_left
+shape_of-image c =
+    search rules
+
+pub shape_of-buffer : goal.shape_of-buffer
+unfolding initialise_left
+shape_of-buffer c =
+    search rules
+
+pub returns : goal.returns
+unfolding initialise_left
+returns c =
+    let handed = c in
+    let called = handed in
+    let read = called in
+    let past = read in
+    let z = past.args in
+    rw (right_size 675 _ past.if-buffer-ne-RECORD_SIZE.false)
+    (let both = called_over (λ page. initialise z.image.now page z.sequence z.stop) (λ page. initialise_image z.image.now page z.sequence z.stop) z.buffer.now
+    read.record_of-page.ensures (called.initialize-outcome.ensures.answer, called.initialize-outcome.ensures.image) (handed.hand_back.ensures.number, handed.hand_back.ensures.buffer) in
+    record { number = both.0; image = both.1.0; buffer = both.1.1 })

@@ -1,0 +1,54 @@
+-- `nvs_mark_full` meets its contract: a wrong size changes nothing, else the call's answer is handed back with its record.
+use mathlib.Core.Path.{refl}
+use borrow.Author.Rules.{rules}
+use Rattle.call_page_state.specs.Calls.{mark_full, mark_full_image}
+use Rattle.boundary.specs.Boundary.{mark_full_left}
+use Rattle.boundary.proofs.Laws.{wrong_size_lem, right_size, called_over}
+use Rattle.boundary.proofs.writing.nvs_mark_full.Goals as goal
+
+pub returns-then-buffer-ne-RECORD_SIZE : goal.returns-then-buffer-ne-RECORD_SIZE
+unfolding mark_full_left
+returns-then-buffer-ne-RECORD_SIZE c =
+    rw (wrong_size_lem 675 _ c.if-buffer-ne-RECORD_SIZE.true) (record {
+      number = refl;
+      image = refl;
+      buffer = refl;
+    })
+
+pub record_of-page-requires : goal.record_of-page-requires
+unfolding mark_full_left
+record_of-page-requires c =
+    search rules
+
+pub mark_as_full-outcome-requires : goal.mark_as_full-outcome-requires
+unfolding mark_full_left
+mark_as_full-outcome-requires c =
+    search rules
+
+pub hand_back-requires : goal.hand_back-requires
+unfolding mark_full_left
+hand_back-requires c =
+    search rules
+
+pub shape_of-image : goal.shape_of-image
+unfolding mark_full_left
+shape_of-image c =
+    search rules
+
+pub shape_of-buffer : goal.shape_of-buffer
+unfolding mark_full_left
+shape_of-buffer c =
+    search rules
+
+pub returns : goal.returns
+unfolding mark_full_left
+returns c =
+    let handed = c in
+    let called = handed in
+    let read = called in
+    let past = read in
+    let z = past.args in
+    rw (right_size 675 _ past.if-buffer-ne-RECORD_SIZE.false)
+    (let both = called_over (λ page. mark_full z.image.now page) (λ page. mark_full_image z.image.now page) z.buffer.now
+    read.record_of-page.ensures (called.mark_as_full-outcome.ensures.answer, called.mark_as_full-outcome.ensures.image) (handed.hand_back.ensures.number, handed.hand_back.ensures.buffer) in
+    record { number = both.0; image = both.1.0; buffer = both.1.1 })

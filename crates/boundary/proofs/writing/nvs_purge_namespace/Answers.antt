@@ -1,0 +1,54 @@
+-- `nvs_purge_namespace` meets its contract: a wrong size changes nothing, else the call's answer is handed back with its record.
+use mathlib.Core.Path.{refl}
+use borrow.Author.Rules.{rules}
+use Rattle.call_purge_namespace.specs.PurgeNamespace.{purge_namespace, purge_namespace_image}
+use Rattle.boundary.specs.Boundary.{purge_namespace_left}
+use Rattle.boundary.proofs.Laws.{wrong_size_lem, right_size, called_over}
+use Rattle.boundary.proofs.writing.nvs_purge_namespace.Goals as goal
+
+pub returns-then-buffer-ne-RECORD_SIZE : goal.returns-then-buffer-ne-RECORD_SIZE
+unfolding purge_namespace_left
+returns-then-buffer-ne-RECORD_SIZE c =
+    rw (wrong_size_lem 675 _ c.if-buffer-ne-RECORD_SIZE.true) (record {
+      number = refl;
+      image = refl;
+      buffer = refl;
+    })
+
+pub record_of-page-requires : goal.record_of-page-requires
+unfolding purge_namespace_left
+record_of-page-requires c =
+    search rules
+
+pub purge_erased_for_namespace-outcome-requires : goal.purge_erased_for_namespace-outcome-requires
+unfolding purge_namespace_left
+purge_erased_for_namespace-outcome-requires c =
+    search rules
+
+pub hand_back-requires : goal.hand_back-requires
+unfolding purge_namespace_left
+hand_back-requires c =
+    search rules
+
+pub shape_of-image : goal.shape_of-image
+unfolding purge_namespace_left
+shape_of-image c =
+    search rules
+
+pub shape_of-buffer : goal.shape_of-buffer
+unfolding purge_namespace_left
+shape_of-buffer c =
+    search rules
+
+pub returns : goal.returns
+unfolding purge_namespace_left
+returns c =
+    let handed = c in
+    let called = handed in
+    let read = called in
+    let past = read in
+    let z = past.args in
+    rw (right_size 675 _ past.if-buffer-ne-RECORD_SIZE.false)
+    (let both = called_over (λ page. purge_namespace z.image.now page z.namespace) (λ page. purge_namespace_image z.image.now page z.namespace) z.buffer.now
+    read.record_of-page.ensures (called.purge_erased_for_namespace-outcome.ensures.answer, called.purge_erased_for_namespace-outcome.ensures.image) (handed.hand_back.ensures.number, handed.hand_back.ensures.buffer) in
+    record { number = both.0; image = both.1.0; buffer = both.1.1 })
