@@ -18,11 +18,9 @@ returns-then-number-ne0 c =
 pub returns : goal.returns
 unfolding record_left
 returns c =
-    let put = c in
-    let else = put in
-    let answer = else.args.outcome.answer in
-    let done : number_of answer ≡ 0 = sym else.number_of-number.ensures ∙ else.if-number-ne0.false in
+    let answer = c.args.outcome.answer in
+    let done : number_of answer ≡ 0 = sym c.number_of-number.ensures ∙ c.if-number-ne0.false in
     record {
       number = sym done;
-      buffer = rw (eq-eqb (number_of answer) 0 done) put.put_record.ensures;
+      buffer = rw (eq-eqb (number_of answer) 0 done) c.put_record.ensures;
     }

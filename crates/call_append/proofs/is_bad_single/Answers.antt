@@ -15,5 +15,4 @@ pub returns : goal.returns
 unfolding kind_of
 returns c =
     let named : is_single (item_type c.args.item.kind) ≡ c.is_single.result = sym (c.is_single.ensures ∙ ap (λ (kind : Kind). is_single kind.named) c.kind_of-kind.ensures) in
-    let single = c in
     rw (named ∙ c.if-not-is_single.false)

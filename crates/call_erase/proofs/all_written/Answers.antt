@@ -41,7 +41,6 @@ loop-i-preserved c =
 
 pub returns : goal.returns
 returns c =
-    let start = c in
     let i = c.loop-i.i in
-    let none : start.args.index + start.args.span - i ≡ 0 = omega arith in
-    sym (ap (λ (n : ℕ). every (same_state Written) (take n (drop i (states_of start.args.map)))) none) ∙ c.loop-i.invariant.2
+    let none : c.args.index + c.args.span - i ≡ 0 = omega arith in
+    sym (ap (λ (n : ℕ). every (same_state Written) (take n (drop i (states_of c.args.map)))) none) ∙ c.loop-i.invariant.2

@@ -11,26 +11,23 @@ returns-then-image-ne-SECTOR_SIZE c =
 
 pub returns-then-not-fit_to_use : goal.returns-then-not-fit_to_use
 returns-then-not-fit_to_use c =
-    let called = c in
-    rw (eq-eqb _ _ called.if-image-ne-SECTOR_SIZE.false, sym called.fit_to_use.ensures ∙ c.if-not-fit_to_use.true)
+    rw (eq-eqb _ _ c.if-image-ne-SECTOR_SIZE.false, sym c.fit_to_use.ensures ∙ c.if-not-fit_to_use.true)
 
 pub returns-then-not-is_in_use : goal.returns-then-not-is_in_use
 returns-then-not-is_in_use c =
     let fit : fit_to_use c.args.page ≡ true = sym c.fit_to_use.ensures ∙ c.if-not-fit_to_use.false in
-    let called = c in
     rw (
-      eq-eqb _ _ called.if-image-ne-SECTOR_SIZE.false,
+      eq-eqb _ _ c.if-image-ne-SECTOR_SIZE.false,
       fit,
-      sym called.is_in_use.ensures ∙ c.if-not-is_in_use.true,
+      sym c.is_in_use.ensures ∙ c.if-not-is_in_use.true,
     )
 
 pub returns : goal.returns
 returns c =
     let fit : fit_to_use c.args.page ≡ true = sym c.fit_to_use.ensures ∙ c.if-not-fit_to_use.false in
-    let called = c in
     rw (
-      eq-eqb _ _ called.if-image-ne-SECTOR_SIZE.false,
+      eq-eqb _ _ c.if-image-ne-SECTOR_SIZE.false,
       fit,
-      sym called.is_in_use.ensures ∙ c.if-not-is_in_use.false,
+      sym c.is_in_use.ensures ∙ c.if-not-is_in_use.false,
     )
     c.range_refusal.ensures

@@ -27,7 +27,6 @@ overflow_add-result c =
     let long : length c.args.page.map ≡ 32 = c.well_formed.0.1.1.1.1.1.1.0.1.0.1 in
     let used : c.args.span ≤ c.args.page.used = let clauses = fit in
     omega (arith, written_le c.args.page.map c.args.index c.args.span long c.requires.1 c.requires.2) in
-    let start = c in
     let clauses = fit in
     let less = used in
     omega arith
@@ -35,5 +34,4 @@ overflow_add-result c =
 pub returns : goal.returns
 unfolding with_erased
 returns c =
-    let places = c in
-    rw (places.without-places.ensures.0, places.without-places.ensures.1, places.mark_range-map.ensures)
+    rw (c.without-places.ensures.0, c.without-places.ensures.1, c.mark_range-map.ensures)

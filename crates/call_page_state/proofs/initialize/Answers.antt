@@ -38,16 +38,14 @@ write_aligned-total-requires c =
     let tested : let z = c.args in accepted (initialise_checks z.image.now z.page) ≡ c.is_done.result = let z = c.args in
     accepted_done (initialise_checks z.image.now z.page) refl c.initialize_refusal-refused.ensures c.is_done.ensures in
     let passed : let z = c.args in accepted (initialise_checks z.image.now z.page) ≡ true = tested ∙ c.if-not-is_done.false in
-    let else = c in
-    let z = else.args in
+    let z = c.args in
     let page = z.page in
     let usable = accepted_usable z.image.now page (not (is_uninitialized page.state)) ((not (all_ones z.image.now), CorruptedData) ∷ []) passed in
     omega (arith, usable.whole)
 
 pub initialized-new-requires : goal.initialized-new-requires
 initialized-new-requires c =
-    let bytes = c in
-    c.header_crc-crc.ensures ∙ ap header_crc bytes.header_bytes-header.ensures ∙ header_crc_bytes bytes.args.sequence
+    c.header_crc-crc.ensures ∙ ap header_crc c.header_bytes-header.ensures ∙ header_crc_bytes c.args.sequence
 
 pub returns : goal.returns
 unfolding initialise initialise_image initialise_plan
@@ -57,10 +55,7 @@ returns c =
     let passed : let z = c.args in accepted (initialise_checks z.image.now z.page) ≡ true = tested ∙ c.if-not-is_done.false in
     let written : let z = c.args in let plan = initialise_plan z.sequence in (c.write_aligned-total.result ≡ length plan) × (c.write_aligned-total.new.image ≡ run (take z.stop plan) z.image.now) =
     (rw (← c.header_bytes-header.ensures) c.write_aligned-total.ensures.total, rw (← c.header_bytes-header.ensures) c.write_aligned-total.ensures.image) in
-    let new = c in
-    let write = new in
-    let else = write in
-    let z = else.args in
+    let z = c.args in
     let both = call_ended (initialise_checks z.image.now z.page) z.page (initialised z.page z.sequence) z.image.now
-    z.stop (initialise_plan z.sequence) passed written.0 new.initialized-new.ensures written.1 c.ended.ensures in
+    z.stop (initialise_plan z.sequence) passed written.0 c.initialized-new.ensures written.1 c.ended.ensures in
     record { answer = both.0; image = both.1 }

@@ -21,7 +21,6 @@ pub returns-then-not-is_uninitialized : goal.returns-then-not-is_uninitialized
 returns-then-not-is_uninitialized c =
     let whole : eqb (length c.args.image.now) 4096 ≡ true = eq-eqb _ _ c.if-image-ne-SECTOR_SIZE.false in
     let fit : fit_to_use c.args.page ≡ true = sym c.fit_to_use.ensures ∙ c.if-not-fit_to_use.false in
-    let passed = c in
     rw (whole, fit, sym c.is_uninitialized.ensures ∙ c.if-not-is_uninitialized.true)
 
 pub returns-then-not-all_ones : goal.returns-then-not-all_ones
@@ -29,7 +28,6 @@ returns-then-not-all_ones c =
     let whole : eqb (length c.args.image.now) 4096 ≡ true = eq-eqb _ _ c.if-image-ne-SECTOR_SIZE.false in
     let fit : fit_to_use c.args.page ≡ true = sym c.fit_to_use.ensures ∙ c.if-not-fit_to_use.false in
     let blank : is_uninitialized c.args.page.state ≡ true = sym c.is_uninitialized.ensures ∙ c.if-not-is_uninitialized.false in
-    let passed = c in
     rw (
       whole,
       fit,
@@ -42,7 +40,6 @@ returns c =
     let whole : eqb (length c.args.image.now) 4096 ≡ true = eq-eqb _ _ c.if-image-ne-SECTOR_SIZE.false in
     let fit : fit_to_use c.args.page ≡ true = sym c.fit_to_use.ensures ∙ c.if-not-fit_to_use.false in
     let blank : is_uninitialized c.args.page.state ≡ true = sym c.is_uninitialized.ensures ∙ c.if-not-is_uninitialized.false in
-    let passed = c in
     rw (
       whole,
       fit,

@@ -10,10 +10,9 @@ use Rattle.call_purge.proofs.zero_entries.Goals as goal
 
 pub loop-i-init : goal.loop-i-init
 loop-i-init c =
-    let start = c in
-    let args = start.args in
+    let args = c.args in
     let all : args.index + args.span - args.index ≡ args.span = omega arith in (
-      start.requires.0,
+      c.requires.0,
       omega arith,
       search rules,
       ap (λ (n : ℕ). run (zeros args.index n) args.image.now) all,
@@ -21,17 +20,15 @@ loop-i-init c =
 
 pub loop-i-preserved : goal.loop-i-preserved
 loop-i-preserved c =
-    let zeroed = c in
-    let at = zeroed in
-    let args = at.args in
+    let args = c.args in
     let end : ℕ = args.index + args.span in
-    let one : end - at.loop-i.i ≡ suc (end - (at.loop-i.i + 1)) = omega arith in (
+    let one : end - c.loop-i.i ≡ suc (end - (c.loop-i.i + 1)) = omega arith in (
       omega arith,
       omega arith,
       search rules,
-      run_zeros at.loop-i.i (end - (at.loop-i.i + 1)) at.loop-i.image zeroed.zero_entry.ensures
-          ∙ ap (λ (n : ℕ). run (zeros at.loop-i.i n) at.loop-i.image) (sym one)
-          ∙ at.loop-i.invariant.3,
+      run_zeros c.loop-i.i (end - (c.loop-i.i + 1)) c.loop-i.image c.zero_entry.ensures
+          ∙ ap (λ (n : ℕ). run (zeros c.loop-i.i n) c.loop-i.image) (sym one)
+          ∙ c.loop-i.invariant.3,
     )
 
 pub returns : goal.returns

@@ -18,8 +18,7 @@ returns-then-image-ne-SECTOR_SIZE c =
 pub returns-then-not-fit_to_use : goal.returns-then-not-fit_to_use
 unfolding purge_namespace purge_namespace_image
 returns-then-not-fit_to_use c =
-    let called = c in
-    rw (eq-eqb _ _ called.if-image-ne-SECTOR_SIZE.false, sym called.fit_to_use.ensures ∙ c.if-not-fit_to_use.true) record {
+    rw (eq-eqb _ _ c.if-image-ne-SECTOR_SIZE.false, sym c.fit_to_use.ensures ∙ c.if-not-fit_to_use.true) record {
       answer = refl;
       image = refl;
     }
@@ -27,13 +26,9 @@ returns-then-not-fit_to_use c =
 pub returns : goal.returns
 unfolding purge_namespace purge_namespace_image purge_namespace_plan
 returns c =
-    let zeroed = c in
-    let walked = zeroed in
-    let fit = walked in
-    let called = fit in
-    let image = called.args.image.now in
-    rw (eq-eqb _ _ called.if-image-ne-SECTOR_SIZE.false, sym called.fit_to_use.ensures ∙ fit.if-not-fit_to_use.false)
+    let image = c.args.image.now in
+    rw (eq-eqb _ _ c.if-image-ne-SECTOR_SIZE.false, sym c.fit_to_use.ensures ∙ c.if-not-fit_to_use.false)
     record {
       answer = refl;
-      image = zeroed.zero_marked.ensures ∙ ap (λ (marks : List Bool). run (zero_units 0 marks) image) walked.to_zero-marks.ensures;
+      image = c.zero_marked.ensures ∙ ap (λ (marks : List Bool). run (zero_units 0 marks) image) c.to_zero-marks.ensures;
     }

@@ -8,5 +8,4 @@ returns-then-not-loads c =
 
 pub returns : goal.returns
 returns c =
-    let loaded = c in
-    rw (sym loaded.loads.ensures ∙ c.if-not-loads.false) (refl, c.remaining.ensures)
+    rw (sym c.loads.ensures ∙ c.if-not-loads.false) (refl, c.remaining.ensures)

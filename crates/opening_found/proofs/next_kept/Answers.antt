@@ -66,6 +66,4 @@ loop-index-preserved c =
 pub returns : goal.returns
 returns c =
     let long : length c.args.map ≡ 32 = c.well_formed.1.0.1.0.1 in
-    let at = c in
-    let start = at in
-    sym (next_past start.args.image.now start.args.map at.loop-index.index long c.loop-index-test.false) ∙ at.loop-index.invariant
+    sym (next_past c.args.image.now c.args.map c.loop-index.index long c.loop-index-test.false) ∙ c.loop-index.invariant

@@ -13,11 +13,9 @@ returns-then-not-is_erased c =
 pub returns-then-head : goal.returns-then-head
 returns-then-head c =
     let erased : let args = c.args in same_state (state_at args.opened args.index) Erased ≡ c.is_erased.result = sym (c.is_erased.ensures ∙ ap (λ (s : EntryMapState). same_state s Erased) c.state_at.ensures) in
-    let tested = c in
-    rw (erased ∙ tested.if-not-is_erased.false, c.if-head.true)
+    rw (erased ∙ c.if-not-is_erased.false, c.if-head.true)
 
 pub returns : goal.returns
 returns c =
     let erased : let args = c.args in same_state (state_at args.opened args.index) Erased ≡ c.is_erased.result = sym (c.is_erased.ensures ∙ ap (λ (s : EntryMapState). same_state s Erased) c.state_at.ensures) in
-    let tested = c in
-    rw (erased ∙ tested.if-not-is_erased.false, c.if-head.false) c.mark_range.ensures
+    rw (erased ∙ c.if-not-is_erased.false, c.if-head.false) c.mark_range.ensures

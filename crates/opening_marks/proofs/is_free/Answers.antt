@@ -12,6 +12,4 @@ returns-then-not-is_empty c =
 pub returns : goal.returns
 returns c =
     let empty : let args = c.args in is_empty (state_at args.map args.index) ≡ c.is_empty.result = sym (c.is_empty.ensures ∙ ap is_empty c.state_at.ensures) in
-    let read = c in
-    let tested = read in
-    rw (empty ∙ tested.if-not-is_empty.false, ← read.entry_at-entry.ensures) c.all_ones.ensures
+    rw (empty ∙ c.if-not-is_empty.false, ← c.entry_at-entry.ensures) c.all_ones.ensures

@@ -11,7 +11,6 @@ size i n h = omega arith
 pub returns : goal.returns
 unfolding map_units
 returns c =
-    let start = c in
-    rw (size start.args.index start.args.span start.requires.1)
+    rw (size c.args.index c.args.span c.requires.1)
     (let both = c.write_aligned.ensures in
     record { total = both.total; image = both.image })

@@ -15,7 +15,6 @@ unfolding loads
 returns-then-is_known c =
     let bytes_there : all_ones c.args.entry ≡ false = sym c.all_ones.ensures ∙ c.if-all_ones.false in
     let type_asked : known_type c.args.entry ≡ c.is_known.result = sym c.is_known.ensures in
-    let tested = c in
     rw (bytes_there, type_asked ∙ c.if-is_known.true) c.crc_right.ensures
 
 pub returns-else-is_known : goal.returns-else-is_known
@@ -23,5 +22,4 @@ unfolding loads
 returns-else-is_known c =
     let bytes_there : all_ones c.args.entry ≡ false = sym c.all_ones.ensures ∙ c.if-all_ones.false in
     let type_asked : known_type c.args.entry ≡ c.is_known.result = sym c.is_known.ensures in
-    let tested = c in
     rw (bytes_there, type_asked ∙ c.if-is_known.false) c.if-is_known.false

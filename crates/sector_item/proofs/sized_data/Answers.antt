@@ -8,6 +8,5 @@ use Rattle.sector_item.proofs.sized_data.Goals as goal
 pub returns : goal.returns
 unfolding sized_data
 returns c =
-    let coded = c in
-    let crc = coded.little_endian-crc.ensures ∙ ap (little_endian 4) coded.crc32.ensures in
+    let crc = c.little_endian-crc.ensures ∙ ap (little_endian 4) c.crc32.ensures in
     c.put.ensures ∙ rw crc

@@ -9,5 +9,4 @@ returns-then-entry-eq0 c =
 
 pub returns : goal.returns
 returns c =
-    let hashed = c in
-    rw (ne_eqb (namespace_of hashed.args.entry) 0 hashed.if-entry-eq0.false, hashed.hash_of_item-hash.ensures)
+    rw (ne_eqb (namespace_of c.args.entry) 0 c.if-entry-eq0.false, c.hash_of_item-hash.ensures)

@@ -22,9 +22,8 @@ returns-then-not-place_fits c =
     let length_used : length used ≡ c.args.len = let long = c.well_formed.0.1.0.1 in length-take-le c.args.len c.args.list (omega arith) in
     let inside : at < length used = let long = length_used in omega arith in
     let asked : place_fits (get_or used at no_item) ≡ c.place_fits.result = rw (get_or-take c.args.len c.args.list at no_item (omega arith)) (sym c.place_fits.ensures) in
-    let at_place = c in
     sym (every_drop_false place_fits used at no_item inside (asked ∙ c.if-not-place_fits.true))
-    ∙ at_place.loop-k.invariant.1
+    ∙ c.loop-k.invariant.1
 
 pub loop-k-preserved : goal.loop-k-preserved
 loop-k-preserved c =
@@ -32,11 +31,10 @@ loop-k-preserved c =
     let at : ℕ = c.loop-k.k in
     let length_used : length used ≡ c.args.len = let long = c.well_formed.0.1.0.1 in length-take-le c.args.len c.args.list (omega arith) in
     let inside : at < length used = let long = length_used in omega arith in
-    let asked : place_fits (get_or used at no_item) ≡ c.place_fits.result = rw (get_or-take c.args.len c.args.list at no_item (omega arith)) (sym c.place_fits.ensures) in
-    let at_place = c in (
+    let asked : place_fits (get_or used at no_item) ≡ c.place_fits.result = rw (get_or-take c.args.len c.args.list at no_item (omega arith)) (sym c.place_fits.ensures) in (
       omega arith,
       sym (every_drop_true place_fits used at no_item inside (asked ∙ c.if-not-place_fits.false))
-          ∙ at_place.loop-k.invariant.1,
+          ∙ c.loop-k.invariant.1,
     )
 
 pub returns : goal.returns
