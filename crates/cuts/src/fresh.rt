@@ -3,6 +3,7 @@ use cuts_append::Sector;
 use cuts_request::Request;
 use page::{Listed, ThinPage};
 use sector::PageState;
+use std::io;
 
 fn uninitialized() -> ThinPage {
     let place = Listed { hash: 0, index: 0 };
@@ -38,14 +39,15 @@ fn curve() -> Request {
     }
 }
 
-pub(crate) fn print_all() {
+pub(crate) fn print_all(rt: &impl Print) -> io::Result<()> {
     let mut payload = [0u8; 4000];
     cuts_append::fill(&mut payload);
     cuts_report::print_cuts(
+        rt,
         b"cuts of a 4,000-byte curve on a fresh page",
         b"curve",
         page(),
         curve(),
         &payload,
-    );
+    )
 }

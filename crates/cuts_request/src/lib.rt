@@ -1,4 +1,6 @@
 // A request in words: the namespace, the type, the key and the value of an item to append.
+#![tactic(auto)]
+
 ghost use Rattle.std.specs.Prelude.{◌≡◌, ◌<◌};
 ghost use Rattle.cuts_request.specs.Words.{no_number, digit_of, digits_of, is_hex, number_in, is_key, key_bytes, or_named, type_of, value_width, most_of, value_of, value_bytes, refused_for, parsed};
 
@@ -151,7 +153,7 @@ pub fn key_bytes(text: &[u8]) -> [u8; 16]
 {
     let mut key = [0u8; 16];
     if is_key(text) {
-        bytes::copy(text, &mut key);
+        sector::bytes::put(&mut key, 0, text);
     }
     key
 }
@@ -249,7 +251,7 @@ pub fn value_bytes(width: u8, value: u64) -> [u8; 8]
         return all;
     }
     let mut narrow = [0xFFu8; 8];
-    bytes::copy(&all[..count], &mut narrow);
+    sector::bytes::put(&mut narrow, 0, &all[..count]);
     narrow
 }
 

@@ -4,10 +4,11 @@ ghost use Rattle.recorded_file.specs.Buffers.{all_size, changed_size};
 
 use crate::tally;
 use crate::tally::{NONE, Tally};
-use libc::STDIN_FILENO;
 use recorded_file::buffers::{ALL, CHANGED, IMAGE};
-use recorded_file::frame;
 use recorded_file::frame::{Frame, Status};
+use recorded_file::{frame, input};
+use std::io;
+use std::io::Read;
 
 const FRAME_SIZE: usize = 8;
 
@@ -20,24 +21,31 @@ pub(crate) struct Replayed {
     pub(crate) tally: Tally,
 }
 
+fn same(first: &[u8], second: &[u8]) -> bool
+    ensures yes { result ≡ true → first.now ≡ second.now }
+    ensures no { first.now ≡ second.now → result ≡ true }
+{
+    first == second
+}
+
 // Whether the call left what the file has: the buffers that a call may change are compared.
 fn agrees(all: &[u8], left: &[u8]) -> bool
     requires { length all.now ≡ all_size }
     ensures yes { result ≡ true → take changed_size all.now ≡ left.now }
     ensures no { take changed_size all.now ≡ left.now → result ≡ true }
 {
-    check::same(&all[IMAGE..CHANGED], left)
+    same(&all[IMAGE..CHANGED], left)
 }
 
-fn end(open: bool) -> Status {
+fn end<R: Read>(file: &mut R, open: bool) -> io::Result<Status> {
     if open {
-        return Status::OutOfOrder;
+        return Ok(Status::OutOfOrder);
     }
     let mut more = [0u8; 1];
-    if io::read_full(STDIN_FILENO, &mut more) != 0 {
-        return Status::MoreBytes;
+    if input::read_full(file, &mut more)? {
+        return Ok(Status::MoreBytes);
     }
-    Status::Ended
+    Ok(Status::Ended)
 }
 
 // A call or a compare.
@@ -63,28 +71,29 @@ fn case(frame: Frame, all: &[u8; ALL], left: &mut [u8; CHANGED], tally: Tally) -
 }
 
 // Reads a frame, and does what it says.
-fn step(all: &mut [u8; ALL], left: &mut [u8; CHANGED], tally: Tally) -> Replayed {
+fn step<R: Read>(
+    file: &mut R,
+    all: &mut [u8; ALL],
+    left: &mut [u8; CHANGED],
+    tally: Tally,
+) -> io::Result<Replayed> {
     let mut bytes = [0u8; FRAME_SIZE];
-    if io::read_full(STDIN_FILENO, &mut bytes) != FRAME_SIZE {
-        return Replayed {
+    if !input::read_full(file, &mut bytes)? {
+        return Ok(Replayed {
             status: Status::CutShort,
             tally,
-        };
+        });
     }
     let frame = frame::frame_of(bytes);
     if frame.kind == frame::END {
-        return Replayed {
-            status: end(tally.open != NONE),
-            tally,
-        };
+        let status = end(file, tally.open != NONE)?;
+        return Ok(Replayed { status, tally });
     }
     if frame.kind == frame::CALL || frame.kind == frame::COMPARE {
-        return case(frame, all, left, tally);
+        return Ok(case(frame, all, left, tally));
     }
-    Replayed {
-        status: frame::change(all, frame),
-        tally,
-    }
+    let status = frame::change(file, all, frame)?;
+    Ok(Replayed { status, tally })
 }
 
 fn is_going(status: Status) -> bool {
@@ -94,7 +103,7 @@ fn is_going(status: Status) -> bool {
     }
 }
 
-pub(crate) fn replay(cases: u32) -> Replayed {
+pub(crate) fn replay<R: Read>(file: &mut R, cases: u32) -> io::Result<Replayed> {
     let mut all = [0u8; ALL];
     let mut left = [0u8; CHANGED];
     let mut now = Replayed {
@@ -103,13 +112,11 @@ pub(crate) fn replay(cases: u32) -> Replayed {
     };
     let mut turns = MOST_FRAMES;
     while turns > 0 {
-        let tally = now.tally;
-        now = step(&mut all, &mut left, tally);
-        let status = now.status;
-        if !is_going(status) {
-            return now;
+        now = step(file, &mut all, &mut left, now.tally)?;
+        if !is_going(now.status) {
+            return Ok(now);
         }
         turns -= 1;
     }
-    now
+    Ok(now)
 }

@@ -4,9 +4,10 @@ ghost use Rattle.recorded_file.specs.Buffers.{all_size};
 ghost use Rattle.recorded_file.specs.Frames.{frame_of, filled, copied};
 
 use crate::buffers::{BUFFERS, DATA, SOURCE};
-use crate::{buffers, numbers};
-use libc::STDIN_FILENO;
+use crate::{buffers, input, numbers};
 use sector::{SECTOR_SIZE, bytes};
+use std::io;
+use std::io::Read;
 
 pub const END: u8 = 0;
 
@@ -68,14 +69,14 @@ pub fn frame_of(bytes: [u8; 8]) -> Frame
 }
 
 // Bytes of the file go into the buffers.
-fn put(all: &mut [u8], at: usize, size: usize) -> Status
+fn put<R: Read>(file: &mut R, all: &mut [u8], at: usize, size: usize) -> io::Result<Status>
     requires { (length all.old ≡ all_size) × (at + size ≤ all_size) }
 {
     let end = at + size;
-    if io::read_full(STDIN_FILENO, &mut all[at..end]) != size {
-        return Status::CutShort;
+    if !input::read_full(file, &mut all[at..end])? {
+        return Ok(Status::CutShort);
     }
-    Status::Going
+    Ok(Status::Going)
 }
 
 fn fill(all: &mut [u8], at: usize, size: usize, byte: u8)
@@ -91,7 +92,7 @@ fn copy(all: &mut [u8], at: usize, size: usize, from: usize)
     requires { (length all.old ≡ all_size) × (at + size ≤ all_size) × (from + size ≤ all_size) × (size ≤ 4096) }
     ensures { all.new ≡ copied all.old at size from }
 {
-    let mut bytes = io::buffer();
+    let mut bytes = [0u8; SECTOR_SIZE];
     let end = from + size;
     bytes::put(&mut bytes, 0, &all[from..end]);
     bytes::put(all, at, &bytes[..size]);
@@ -110,30 +111,30 @@ fn copy_from(all: &mut [u8], at: usize, frame: Frame, start: usize) -> Status
     Status::Going
 }
 
-pub fn change(all: &mut [u8], frame: Frame) -> Status
+pub fn change<R: Read>(file: &mut R, all: &mut [u8], frame: Frame) -> io::Result<Status>
     requires { length all.old ≡ all_size }
 {
     if frame.name >= BUFFERS {
-        return Status::OutOfBuffer;
+        return Ok(Status::OutOfBuffer);
     }
     let offset = frame.offset as usize;
     let size = frame.size as usize;
     if offset + size > buffers::size_of(frame.name) {
-        return Status::OutOfBuffer;
+        return Ok(Status::OutOfBuffer);
     }
     let at = buffers::start_of(frame.name) + offset;
     if frame.kind == PUT {
-        return put(all, at, size);
+        return put(file, all, at, size);
     }
     if frame.kind == FILL {
         fill(all, at, size, (frame.argument % 256) as u8);
-        return Status::Going;
+        return Ok(Status::Going);
     }
     if frame.kind == COPY_DATA {
-        return copy_from(all, at, frame, DATA);
+        return Ok(copy_from(all, at, frame, DATA));
     }
     if frame.kind == COPY_SOURCE {
-        return copy_from(all, at, frame, SOURCE);
+        return Ok(copy_from(all, at, frame, SOURCE));
     }
-    Status::NoFrame
+    Ok(Status::NoFrame)
 }

@@ -1,8 +1,8 @@
 // The first 16 bytes of the file: a name, the version, the number of cases.
-use libc::STDIN_FILENO;
+use crate::input;
 use sector::bytes;
-
-const HEAD_SIZE: usize = 16;
+use std::io;
+use std::io::Read;
 
 const VERSION: u32 = 1;
 
@@ -14,7 +14,7 @@ pub enum Head {
 }
 
 fn head_of(bytes: [u8; 16]) -> Head {
-    if !check::same(&bytes[..8], b"nvs_page") {
+    if !bytes::same(&bytes[..8], b"nvs_page") {
         return Head::Other;
     }
     if bytes::number_at(&bytes, 8) != VERSION {
@@ -23,10 +23,10 @@ fn head_of(bytes: [u8; 16]) -> Head {
     Head::Cases(bytes::number_at(&bytes, 12))
 }
 
-pub fn read() -> Head {
+pub fn read<R: Read>(file: &mut R) -> io::Result<Head> {
     let mut bytes = [0u8; 16];
-    if io::read_full(STDIN_FILENO, &mut bytes) != HEAD_SIZE {
-        return Head::CutShort;
+    if !input::read_full(file, &mut bytes)? {
+        return Ok(Head::CutShort);
     }
-    head_of(bytes)
+    Ok(head_of(bytes))
 }

@@ -1,6 +1,9 @@
 // The recorded file (compare/RECORDED.md): its head, its frames, the buffers that they change, and the request of a call.
+#![tactic(auto)]
+
 pub mod buffers;
 pub mod frame;
 pub mod head;
+pub mod input;
 mod numbers;
 pub mod request;

@@ -1,9 +1,11 @@
 // CRC vectors: each line names some bytes, and has their CRC from 0 and from 0xFFFFFFFF.
 //
 // The file `stdout` holds the CRCs of the same bytes by zlib: a CRC that differs is a line that differs.
+#![tactic(auto)]
+
 ghost use Rattle.std.specs.Prelude.{◌≡◌, ◌≤◌, length};
 
-use libc::STDOUT_FILENO;
+use std::io;
 
 // 4,000 bytes: the second byte of each number that follows 1 by `75 * x + 74` modulo 65,537.
 fn sample() -> [u8; 4000]
@@ -18,35 +20,33 @@ fn sample() -> [u8; 4000]
     bytes
 }
 
-fn print_crcs(bytes: &[u8]) {
-    io::write_all(STDOUT_FILENO, b": ");
-    io::print_hex(STDOUT_FILENO, crc::crc32(0, bytes) as u64, 8);
-    io::write_all(STDOUT_FILENO, b" ");
-    io::print_hex(STDOUT_FILENO, crc::crc32(0xFFFFFFFF, bytes) as u64, 8);
-    io::write_all(STDOUT_FILENO, b"\n");
+fn print_crcs(rt: &impl Print, bytes: &[u8]) -> io::Result<()> {
+    let from_zero = crc::crc32(0, bytes);
+    let from_ones = crc::crc32(0xFFFFFFFF, bytes);
+    println!(rt; ": {from_zero:08x} {from_ones:08x}")
 }
 
-fn print_first(bytes: &[u8], count: usize)
+fn print_first(rt: &impl Print, bytes: &[u8], count: usize) -> io::Result<()>
     requires { count ≤ length bytes.now }
 {
-    io::print_decimal(STDOUT_FILENO, count as u64);
-    io::write_all(STDOUT_FILENO, b" bytes");
-    print_crcs(&bytes[..count]);
+    print!(rt; "{count} bytes")?;
+    print_crcs(rt, &bytes[..count])
 }
 
-fn print_short(bytes: &[u8])
+fn print_short(rt: &impl Print, bytes: &[u8]) -> io::Result<()>
     requires { 40 ≤ length bytes.now }
 {
     for count in 0..41usize {
-        print_first(bytes, count);
+        print_first(rt, bytes, count)?;
     }
+    Ok(())
 }
 
-fn main() {
+fn main(rt: HostRuntime) -> io::Result<()> {
     let digits = b"123456789";
-    io::write_all(STDOUT_FILENO, digits);
-    print_crcs(digits);
+    rt.write_all(digits)?;
+    print_crcs(&rt, digits)?;
     let bytes = sample();
-    print_short(&bytes);
-    print_first(&bytes, 4000);
+    print_short(&rt, &bytes)?;
+    print_first(&rt, &bytes, 4000)
 }

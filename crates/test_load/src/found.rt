@@ -2,6 +2,7 @@
 use crate::images;
 use opening_found::Next;
 use sector::{ENTRY_SIZE, ITEMS_OFFSET, MAP_OFFSET, layout};
+use std::io;
 
 // Entry 0 is a single. Entry 1 begins a payload item of span 3 whose payload CRC is wrong; entry 2, which it covers, has the bytes
 // of a single. Entry 4 begins a payload item of span 2 that is whole. All six are Written; the tail is free.
@@ -21,27 +22,32 @@ fn page() -> [u8; 4096] {
     image
 }
 
-fn print_next(image: &[u8; 4096], from: usize) {
+fn print_next(rt: &impl Print, image: &[u8; 4096], from: usize) -> io::Result<()> {
     let map = layout::map_of(image);
     match opening_found::next_kept(image, map, from) {
         Next::At(index, span) => test_print::line(
+            rt,
             b"next kept from #: index #, span #\n",
             [from as u64, index as u64, span as u64, 0, 0, 0, 0],
         ),
-        Next::End => test_print::line(b"next kept from #: none\n", [from as u64, 0, 0, 0, 0, 0, 0]),
+        Next::End => test_print::line(
+            rt,
+            b"next kept from #: none\n",
+            [from as u64, 0, 0, 0, 0, 0, 0],
+        ),
     }
 }
 
-pub(crate) fn print_all() {
+pub(crate) fn print_all(rt: &impl Print) -> io::Result<()> {
     let image = page();
-    print_next(&image, 0);
-    print_next(&image, 1);
-    print_next(&image, 2);
-    print_next(&image, 3);
-    print_next(&image, 4);
-    print_next(&image, 5);
-    print_next(&image, 6);
-    print_next(&image, 125);
-    print_next(&image, 126);
-    print_next(&image, 0xFFFF_FFFF_FFFF_FFFF);
+    print_next(rt, &image, 0)?;
+    print_next(rt, &image, 1)?;
+    print_next(rt, &image, 2)?;
+    print_next(rt, &image, 3)?;
+    print_next(rt, &image, 4)?;
+    print_next(rt, &image, 5)?;
+    print_next(rt, &image, 6)?;
+    print_next(rt, &image, 125)?;
+    print_next(rt, &image, 126)?;
+    print_next(rt, &image, 0xFFFF_FFFF_FFFF_FFFF)
 }

@@ -2,6 +2,7 @@
 ghost use Rattle.std.specs.Prelude.{◌<◌};
 
 use sector::{ENTRY_SIZE, ITEMS_OFFSET};
+use std::io;
 
 // What lies in every byte of a page but those of its item's header.
 pub(crate) const FILLED: u8 = 0x77;
@@ -23,7 +24,7 @@ pub(crate) fn page_with(at: usize, over: u8, kind: u8, span: u8, size: u8) -> [u
     image
 }
 
-pub(crate) fn print_answer(answer: sector::Answer) {
-    test_print::answered(b": answer ", answer);
-    test_print::text(b"\n");
+pub(crate) fn print_answer(rt: &impl Print, answer: sector::Answer) -> io::Result<()> {
+    test_print::answered(rt, b": answer ", answer)?;
+    test_print::text(rt, b"\n")
 }

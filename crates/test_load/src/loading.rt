@@ -1,5 +1,6 @@
 // Load and raw read: the answer, and the type byte of the item.
 use call_load::Loaded;
+use std::io;
 
 fn answer_of(loaded: Loaded) -> u64 {
     let answer = loaded.answer;
@@ -11,10 +12,11 @@ fn type_of(loaded: Loaded) -> u64 {
     test_print::wide(item[1])
 }
 
-pub(crate) fn print_loads(image: &[u8], index: usize) {
+pub(crate) fn print_loads(rt: &impl Print, image: &[u8], index: usize) -> io::Result<()> {
     let loaded = call_load::load_item(image, index);
     let raw = call_load::read_raw_entry(image, index);
     test_print::line(
+        rt,
         b"  index #: load answer #, type $; raw read answer #, type $",
         [
             index as u64,
@@ -25,5 +27,5 @@ pub(crate) fn print_loads(image: &[u8], index: usize) {
             0,
             0,
         ],
-    );
+    )
 }

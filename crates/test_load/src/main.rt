@@ -2,17 +2,21 @@
 // Then the kept items of a page, one after the other.
 //
 // Answers are 01's numbers; the type byte that a mismatch carries stands after its 8.
+#![tactic(auto)]
+
 mod found;
 mod images;
 mod loading;
 mod payloads;
 mod type_bytes;
 
-fn main() {
-    type_bytes::print_all();
-    payloads::print_types();
-    payloads::print_sizes();
-    payloads::print_places();
-    payloads::print_blank();
-    found::print_all();
+use std::io;
+
+fn main(rt: HostRuntime) -> io::Result<()> {
+    type_bytes::print_all(&rt)?;
+    payloads::print_types(&rt)?;
+    payloads::print_sizes(&rt)?;
+    payloads::print_places(&rt)?;
+    payloads::print_blank(&rt)?;
+    found::print_all(&rt)
 }

@@ -1,5 +1,7 @@
 // The hash bound, over pages of a few items.
 
+use std::io;
+
 fn entry(namespace: u8, span: u8) -> [u8; 32] {
     let mut bytes = [0x77u8; 32];
     bytes[0] = namespace;
@@ -31,9 +33,17 @@ fn bound_of(byte: u8, end: u8, namespace: u8, span: u8, last: u8) -> usize {
     call_hash_bound::hashed_item_bound(map, entries)
 }
 
-fn print_bound(byte: u8, end: u8, namespace: u8, span: u8, last: u8) {
+fn print_bound(
+    rt: &impl Print,
+    byte: u8,
+    end: u8,
+    namespace: u8,
+    span: u8,
+    last: u8,
+) -> io::Result<()> {
     let bound = bound_of(byte, end, namespace, span, last);
     test_print::line(
+        rt,
         b"hash bound, map $, last byte $, namespace #, span #, at 125 span #: #\n",
         [
             byte as u64,
@@ -44,17 +54,17 @@ fn print_bound(byte: u8, end: u8, namespace: u8, span: u8, last: u8) {
             bound as u64,
             0,
         ],
-    );
+    )
 }
 
-pub(crate) fn print_all() {
-    print_bound(0xFF, 0xFF, 1, 1, 1);
-    print_bound(0xAA, 0xAA, 1, 1, 1);
-    print_bound(0xAA, 0xAA, 0, 1, 1);
-    print_bound(0xAA, 0xAA, 1, 126, 126);
-    print_bound(0xAA, 0xAA, 1, 127, 127);
-    test_print::number(b"hash bound, nine entries: ", bound_of_nine() as u64);
-    test_print::text(b"\n");
-    print_bound(0xFF, 0xFA, 1, 2, 1);
-    print_bound(0xFF, 0xFA, 1, 3, 1);
+pub(crate) fn print_all(rt: &impl Print) -> io::Result<()> {
+    print_bound(rt, 0xFF, 0xFF, 1, 1, 1)?;
+    print_bound(rt, 0xAA, 0xAA, 1, 1, 1)?;
+    print_bound(rt, 0xAA, 0xAA, 0, 1, 1)?;
+    print_bound(rt, 0xAA, 0xAA, 1, 126, 126)?;
+    print_bound(rt, 0xAA, 0xAA, 1, 127, 127)?;
+    test_print::number(rt, b"hash bound, nine entries: ", bound_of_nine() as u64)?;
+    test_print::text(rt, b"\n")?;
+    print_bound(rt, 0xFF, 0xFA, 1, 2, 1)?;
+    print_bound(rt, 0xFF, 0xFA, 1, 3, 1)
 }

@@ -1,9 +1,10 @@
 // Calls cut by a stop, and what opening then finds.
+use std::io;
 use test_writing_cases::calls::Call;
 use test_writing_cases::records::Sector;
 use test_writing_cases::{calls, lines, records};
 
-fn open(sector: Sector, at: usize) -> Sector {
+fn open(rt: &impl Print, sector: Sector, at: usize) -> io::Result<Sector> {
     let mut image = sector.image;
     let outcome = opening::open_page(&mut image);
     let answer = outcome.answer;
@@ -13,16 +14,17 @@ fn open(sector: Sector, at: usize) -> Sector {
         image,
         page,
     };
-    test_print::text(b"then opened");
-    lines::print(opened, at);
-    opened
+    test_print::text(rt, b"then opened")?;
+    lines::print(rt, opened, at)?;
+    Ok(opened)
 }
 
-fn initialise(n: usize) {
-    test_print::number(b"initialise, cut at ", n as u64);
+fn initialise(rt: &impl Print, n: usize) -> io::Result<()> {
+    test_print::number(rt, b"initialise, cut at ", n as u64)?;
     let cut = calls::after(records::empty(0xFF), Call::Initialise, n);
-    lines::print(cut, 0);
-    open(cut, 0);
+    lines::print(rt, cut, 0)?;
+    open(rt, cut, 0)?;
+    Ok(())
 }
 
 fn fifteen_singles() -> Sector {
@@ -38,8 +40,8 @@ fn fifteen_singles() -> Sector {
     sector
 }
 
-fn data(n: usize) {
-    test_print::number(b"32 bytes at next free 15, cut at ", n as u64);
+fn data(rt: &impl Print, n: usize) -> io::Result<()> {
+    test_print::number(rt, b"32 bytes at next free 15, cut at ", n as u64)?;
     let call = Call::Variable {
         namespace: 1,
         kind: 0x21,
@@ -47,20 +49,22 @@ fn data(n: usize) {
         byte: 0x42,
     };
     let cut = calls::after(fifteen_singles(), call, n);
-    lines::print(cut, 3);
-    open(open(cut, 3), 4);
+    lines::print(rt, cut, 3)?;
+    let opened = open(rt, cut, 3)?;
+    open(rt, opened, 4)?;
+    Ok(())
 }
 
-pub(crate) fn print_all() {
-    initialise(0);
-    initialise(1);
-    initialise(7);
-    initialise(8);
-    data(0);
-    data(1);
-    data(8);
-    data(9);
-    data(16);
-    data(17);
-    data(18);
+pub(crate) fn print_all(rt: &impl Print) -> io::Result<()> {
+    initialise(rt, 0)?;
+    initialise(rt, 1)?;
+    initialise(rt, 7)?;
+    initialise(rt, 8)?;
+    data(rt, 0)?;
+    data(rt, 1)?;
+    data(rt, 8)?;
+    data(rt, 9)?;
+    data(rt, 16)?;
+    data(rt, 17)?;
+    data(rt, 18)
 }

@@ -1,18 +1,33 @@
 // Erase: data of a page, and entries that are none.
+use std::io;
 use test_writing_cases::calls::Call;
 use test_writing_cases::{calls, lines, records};
 
-fn print_name(state: u8, length: usize, before: usize, index: usize, span: usize) {
-    test_print::number(b"erase, data of length ", length as u64);
-    test_print::byte(b" on state ", state);
-    test_print::number(b", erased before ", before as u64);
-    test_print::number(b", index ", index as u64);
-    test_print::number(b", span ", span as u64);
+fn print_name(
+    rt: &impl Print,
+    state: u8,
+    length: usize,
+    before: usize,
+    index: usize,
+    span: usize,
+) -> io::Result<()> {
+    test_print::number(rt, b"erase, data of length ", length as u64)?;
+    test_print::byte(rt, b" on state ", state)?;
+    test_print::number(rt, b", erased before ", before as u64)?;
+    test_print::number(rt, b", index ", index as u64)?;
+    test_print::number(rt, b", span ", span as u64)
 }
 
 // On a page with data of this length, where its state lets one append, of which entries were erased before: 0 is none.
-fn erase(state: u8, length: usize, before: usize, index: usize, span: usize) {
-    print_name(state, length, before, index, span);
+fn erase(
+    rt: &impl Print,
+    state: u8,
+    length: usize,
+    before: usize,
+    index: usize,
+    span: usize,
+) -> io::Result<()> {
+    print_name(rt, state, length, before, index, span)?;
     let data = Call::Variable {
         namespace: 1,
         kind: 0x21,
@@ -25,19 +40,19 @@ fn erase(state: u8, length: usize, before: usize, index: usize, span: usize) {
         span: before,
     };
     let sector = calls::after(written, first, 0);
-    lines::print(calls::after(sector, Call::Erase { index, span }, 0), 0);
+    lines::print(rt, calls::after(sector, Call::Erase { index, span }, 0), 0)
 }
 
 // State of the page, length of its data and entries erased before; index and span.
-pub(crate) fn print_all() {
-    erase(0xFE, 33, 0, 0, 3);
-    erase(0xFE, 33, 0, 0, 4);
-    erase(0xFE, 33, 0, 3, 1);
-    erase(0xFE, 33, 0, 0, 0);
-    erase(0xFE, 33, 0, 125, 1);
-    erase(0xFE, 33, 0, 125, 2);
-    erase(0xFE, 33, 0, 126, 1);
-    erase(0xFE, 33, 3, 0, 3);
-    erase(0xFE, 4000, 0, 0, 126);
-    erase(0xFF, 0, 0, 0, 0);
+pub(crate) fn print_all(rt: &impl Print) -> io::Result<()> {
+    erase(rt, 0xFE, 33, 0, 0, 3)?;
+    erase(rt, 0xFE, 33, 0, 0, 4)?;
+    erase(rt, 0xFE, 33, 0, 3, 1)?;
+    erase(rt, 0xFE, 33, 0, 0, 0)?;
+    erase(rt, 0xFE, 33, 0, 125, 1)?;
+    erase(rt, 0xFE, 33, 0, 125, 2)?;
+    erase(rt, 0xFE, 33, 0, 126, 1)?;
+    erase(rt, 0xFE, 33, 3, 0, 3)?;
+    erase(rt, 0xFE, 4000, 0, 0, 126)?;
+    erase(rt, 0xFF, 0, 0, 0, 0)
 }

@@ -1,7 +1,8 @@
 // An item of every type byte, its CRC made over that byte and over 0xFF, through each call that asks whether it loads.
-ghost use Rattle.std.specs.Prelude.{◌≤◌};
+ghost use Rattle.std.specs.Prelude.{◌≤◌, IfOk};
 
 use sector::{Answer, ENTRY_SIZE, ITEMS_OFFSET, MAP_OFFSET, answers};
+use std::io;
 use test_writing_cases::calls::Call;
 use test_writing_cases::records::Sector;
 use test_writing_cases::{calls, records};
@@ -122,16 +123,17 @@ fn is_no_item(trial: Trial) -> bool {
     !trial.purged
 }
 
-fn print_trial(made: u8, kind: u8, trial: Trial) {
+fn print_trial(rt: &impl Print, made: u8, kind: u8, trial: Trial) -> io::Result<()> {
     let load = trial.load;
     let data = trial.data;
     let copy = trial.copy;
-    test_print::byte(b"type ", kind);
-    test_print::byte(b", CRC over ", made);
-    test_print::answered(b": load answer ", load);
-    test_print::answered(b", load data answer ", data);
-    test_print::answered(b", copy answer ", copy);
+    test_print::byte(rt, b"type ", kind)?;
+    test_print::byte(rt, b", CRC over ", made)?;
+    test_print::answered(rt, b": load answer ", load)?;
+    test_print::answered(rt, b", load data answer ", data)?;
+    test_print::answered(rt, b", copy answer ", copy)?;
     test_print::line(
+        rt,
         b", ?kept by opening, ?erased by it, ?purged\n",
         [
             trial.kept as u64,
@@ -142,19 +144,19 @@ fn print_trial(made: u8, kind: u8, trial: Trial) {
             0,
             0,
         ],
-    );
+    )
 }
 
 // 1 for what is no item. Anything else gets its line.
-fn one_if_none(made: u8, kind: u8) -> u64
-    ensures { result ≤ 1 }
+fn one_if_none(rt: &impl Print, made: u8, kind: u8) -> io::Result<u64>
+    ensures { IfOk result (λ count. count ≤ 1) }
 {
     let trial = tried(made, kind);
     if is_no_item(trial) {
-        return 1;
+        return Ok(1);
     }
-    print_trial(made, kind, trial);
-    0
+    print_trial(rt, made, kind, trial)?;
+    Ok(0)
 }
 
 fn made_over(itself: bool, kind: u8) -> u8 {
@@ -165,19 +167,20 @@ fn made_over(itself: bool, kind: u8) -> u8 {
 }
 
 // Over all type bytes, with the CRC made over each itself, or over 0xFF.
-fn count_none(itself: bool) -> u64 {
+fn count_none(rt: &impl Print, itself: bool) -> io::Result<u64> {
     let mut count: u64 = 0;
     for value in 0..256u32 {
-        count += one_if_none(made_over(itself, value as u8), value as u8);
+        count += one_if_none(rt, made_over(itself, value as u8), value as u8)?;
     }
-    count
+    Ok(count)
 }
 
-pub(crate) fn print_all() {
-    let itself = count_none(true);
-    let any = count_none(false);
+pub(crate) fn print_all(rt: &impl Print) -> io::Result<()> {
+    let itself = count_none(rt, true)?;
+    let any = count_none(rt, false)?;
     test_print::line(
+        rt,
         b"other type bytes, which no call takes for an item: # with the CRC over the byte, # with the CRC over 0xff\n",
         [itself, any, 0, 0, 0, 0, 0],
-    );
+    )
 }

@@ -2,6 +2,8 @@
 //
 // A line a case, named by its numbers. Answers are 01's numbers. A call's units are found by stopping it at every n, until it
 // is not stopped.
+#![tactic(auto)]
+
 pub mod appends;
 pub mod calls;
 mod headers;
@@ -9,7 +11,9 @@ pub mod lines;
 pub mod records;
 pub mod units;
 
-pub fn print_all() {
-    headers::print_all();
-    appends::print_all();
+use std::io;
+
+pub fn print_all(rt: &impl Print) -> io::Result<()> {
+    headers::print_all(rt)?;
+    appends::print_all(rt)
 }

@@ -2,6 +2,7 @@
 use crate::calls::Call;
 use crate::records::Sector;
 use crate::{calls, lines, records};
+use std::io;
 
 const STOPPED: u8 = 11;
 
@@ -19,13 +20,20 @@ fn units(sector: Sector, call: Call) -> usize {
     MOST
 }
 
-pub(crate) fn print_on(sector: Sector, call: Call, at: usize) {
+pub(crate) fn print_on(rt: &impl Print, sector: Sector, call: Call, at: usize) -> io::Result<()> {
     let n = units(sector, call);
-    test_print::number(b", units ", n as u64);
-    lines::print(calls::after(sector, call, n), at);
+    test_print::number(rt, b", units ", n as u64)?;
+    lines::print(rt, calls::after(sector, call, n), at)
 }
 
-pub fn print(call: Call, state: u8, used: u8, erased: u8, at: usize) {
-    lines::print_page(state, used, erased);
-    print_on(records::filled(state, used, erased), call, at);
+pub fn print(
+    rt: &impl Print,
+    call: Call,
+    state: u8,
+    used: u8,
+    erased: u8,
+    at: usize,
+) -> io::Result<()> {
+    lines::print_page(rt, state, used, erased)?;
+    print_on(rt, records::filled(state, used, erased), call, at)
 }

@@ -3,8 +3,6 @@ use mathlib.Core.Path.{◌≡◌, sym, ◌∙◌}
 use mathlib.Core.Bool.{true, and-true}
 use Prim.Native.Nat.{suc, ◌+◌, ◌-◌, ◌<◌, ◌≤◌}
 use native.Mathlib.Omega.{arith}
-use borrow.Author.Rules.{rules}
-use borrow.Author.Tests.{not-true, not-false}
 use lib.ListN.{length, drop, drop_of_length-le}
 use Rattle.flash.specs.Flash.{all_ones}
 use Rattle.sector.specs.Layout.{entry_at, entries_of}
@@ -63,7 +61,6 @@ loop-start-preserved c =
 
 pub returns : goal.returns
 returns c =
-    let at = c in
-    let args = at.args in
-    let none : at.loop-start.start ≡ 0 = omega arith in
-    (at.loop-start.invariant.0, rw none (shut_free_tail (states_of args.map) (entries_of args.image.now) (rw none at at.loop-start.invariant.1)))
+    let args = c.args in
+    let none : c.loop-start.start ≡ 0 = omega arith in
+    (c.loop-start.invariant.0, rw none (shut_free_tail (states_of args.map) (entries_of args.image.now) (rw none c c.loop-start.invariant.1)))
