@@ -7,8 +7,8 @@
  * what no code can check of a pointer: each pointer is good for its length, and two slices of which one is written
  * do not overlap.
  *
- * Link the archive that `boundary/archive.sh OUT.a` makes for the processor at hand. On x86-64 Linux it is
- * target/staticlib/libboundary.a, which `rt staticlib boundary` writes.
+ * Link the archive that `boundary/archive.sh OUT.a` makes, for x86-64 Linux. It is the library of the crate `boundary_c`, which `rt lib`
+ * builds in that crate's folder.
  */
 #ifndef NVS_PAGE_H
 #define NVS_PAGE_H
