@@ -1,4 +1,6 @@
 // Power cuts: an append stopped after n units, the page opened, and what was found.
+#![tactic(auto)]
+
 ghost use Rattle.std.specs.Prelude.{◌≡◌, ℕ, ◌≤◌, length};
 ghost use Rattle.cuts_append.specs.Cutting.{appended, appended_image, cut_after, finished_by, same_list, same_items, same_entries, same_sector, found_in, found_after, same_found, unit_count, last_alike, curve};
 

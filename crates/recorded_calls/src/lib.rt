@@ -1,4 +1,6 @@
 // A call of the recorded file (compare/RECORDED.md) on its buffers, through the C functions: what it leaves, and its result.
+#![tactic(auto)]
+
 ghost use Rattle.std.specs.Prelude.{◌≡◌, ◌≤◌, length};
 ghost use Rattle.recorded_file.specs.Buffers.{all_size, changed_size};
 

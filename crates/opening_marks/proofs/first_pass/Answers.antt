@@ -16,15 +16,19 @@ loop-index-init c =
 pub loop-index-preserved : goal.loop-index-preserved
 loop-index-preserved c =
     let long : length c.args.map ≡ 32 = c.well_formed.0.1.0.1 in
-    let args = c.args in (
+    let at = c in
+    let start = at in
+    let args = start.args in (
       omega arith,
       rw c.clear_upper-next.ensures
-          (first_step args.map args.opened args.heads long c.well_formed.1.0.1.0.1 c.well_formed.1.1.0.1.0.1 c.loop-index.marked c.loop-index.index (omega arith) c.loop-index.invariant.1),
+          (first_step args.map args.opened args.heads long start.well_formed.1.0.1.0.1 start.well_formed.1.1.0.1.0.1 at.loop-index.marked at.loop-index.index (omega arith) at.loop-index.invariant.1),
     )
 
 pub returns : goal.returns
 returns c =
     let long : length c.args.map ≡ 32 = c.well_formed.0.1.0.1 in
-    let args = c.args in
-    let end : c.loop-index.index ≡ 126 = omega arith in
-    first_end args.map args.opened args.heads long c.well_formed.1.0.1.0.1 c.well_formed.1.1.0.1.0.1 (rw end c c.loop-index.invariant.1)
+    let at = c in
+    let start = at in
+    let args = start.args in
+    let end : at.loop-index.index ≡ 126 = omega arith in
+    first_end args.map args.opened args.heads long start.well_formed.1.0.1.0.1 start.well_formed.1.1.0.1.0.1 (rw end at at.loop-index.invariant.1)

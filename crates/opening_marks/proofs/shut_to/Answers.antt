@@ -18,12 +18,14 @@ loop-index-init c =
 pub loop-index-preserved : goal.loop-index-preserved
 loop-index-preserved c =
     let long : length c.args.map ≡ 32 = c.well_formed.0.1.0.1 in
-    let args = c.args in (
+    let at = c in
+    let args = at.args in (
       omega arith,
-      rw c.shut_entry-next.ensures (shut_step args.end args.map c.loop-index.marked c.loop-index.index long (omega arith) (omega arith) c.loop-index.invariant.1),
+      rw c.shut_entry-next.ensures (shut_step args.end args.map at.loop-index.marked at.loop-index.index long (omega arith) (omega arith) at.loop-index.invariant.1),
     )
 
 pub returns : goal.returns
 returns c =
-    let end : c.loop-index.index ≡ c.args.end = omega arith in
-    shut_end (rw end c c.loop-index.invariant.1)
+    let at = c in
+    let end : at.loop-index.index ≡ at.args.end = omega arith in
+    shut_end (rw end at at.loop-index.invariant.1)

@@ -61,6 +61,7 @@ loop-start-preserved c =
 
 pub returns : goal.returns
 returns c =
-    let args = c.args in
-    let none : c.loop-start.start ≡ 0 = omega arith in
-    (c.loop-start.invariant.0, rw none (shut_free_tail (states_of args.map) (entries_of args.image.now) (rw none c c.loop-start.invariant.1)))
+    let at = c in
+    let args = at.args in
+    let none : at.loop-start.start ≡ 0 = omega arith in
+    (at.loop-start.invariant.0, rw none (shut_free_tail (states_of args.map) (entries_of args.image.now) (rw none at at.loop-start.invariant.1)))

@@ -38,7 +38,7 @@ returns-then-crc-number_at c =
     ∙ rw (long, c.entry_address-start.ensures, add-one args.index)
     (sym (ap (crc32 crc_start) (take_joined image args.index (covered args.entry) (size_of args.entry) covers fits)))) in
     let stored = c.number_at.ensures in
-    rw (c, ne_eqb _ _ (λ e. c.if-crc-number_at.true (sym payload_crc ∙ e ∙ sym stored)))
+    rw (sized, ne_eqb _ _ (λ e. c.if-crc-number_at.true (sym payload_crc ∙ e ∙ sym stored)))
 
 pub returns-then-not-all_usable : goal.returns-then-not-all_usable
 returns-then-not-all_usable c =
@@ -56,7 +56,7 @@ returns-then-not-all_usable c =
     (c.crc32-crc.ensures
     ∙ rw (long, c.entry_address-start.ensures, add-one args.index)
     (sym (ap (crc32 crc_start) (take_joined image args.index (covered args.entry) (size_of args.entry) covers fits)))) in
-    let sound : let args = c.args in first_rule ((size_too_big args.entry, SizeTooBig) ∷ (payload_crc_wrong args.entry (take (covered args.entry) (drop (args.index + 1) (entries_of args.image.now))), PayloadCrcWrong) ∷ []) ≡ none = rw (c, eq-eqb _ _ (payload_crc ∙ c.if-crc-number_at.false ∙ c.number_at.ensures)) in
+    let sound : let args = c.args in first_rule ((size_too_big args.entry, SizeTooBig) ∷ (payload_crc_wrong args.entry (take (covered args.entry) (drop (args.index + 1) (entries_of args.image.now))), PayloadCrcWrong) ∷ []) ≡ none = rw (sized, eq-eqb _ _ (payload_crc ∙ c.if-crc-number_at.false ∙ c.number_at.ensures)) in
     rw (sound, sym c.all_usable.ensures ∙ c.if-not-all_usable.true)
 
 pub returns : goal.returns
@@ -75,5 +75,5 @@ returns c =
     (c.crc32-crc.ensures
     ∙ rw (long, c.entry_address-start.ensures, add-one args.index)
     (sym (ap (crc32 crc_start) (take_joined image args.index (covered args.entry) (size_of args.entry) covers fits)))) in
-    let sound : let args = c.args in first_rule ((size_too_big args.entry, SizeTooBig) ∷ (payload_crc_wrong args.entry (take (covered args.entry) (drop (args.index + 1) (entries_of args.image.now))), PayloadCrcWrong) ∷ []) ≡ none = rw (c, eq-eqb _ _ (payload_crc ∙ c.if-crc-number_at.false ∙ c.number_at.ensures)) in
+    let sound : let args = c.args in first_rule ((size_too_big args.entry, SizeTooBig) ∷ (payload_crc_wrong args.entry (take (covered args.entry) (drop (args.index + 1) (entries_of args.image.now))), PayloadCrcWrong) ∷ []) ≡ none = rw (sized, eq-eqb _ _ (payload_crc ∙ c.if-crc-number_at.false ∙ c.number_at.ensures)) in
     rw (sound, sym c.all_usable.ensures ∙ c.if-not-all_usable.false)
