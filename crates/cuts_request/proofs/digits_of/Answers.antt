@@ -18,7 +18,7 @@ returns-then-digit-most c =
     sym (digits_step z.base z.most l.value z.text.now l.i c.digit_of-digit.result (omega arith) c.digit_of-digit.ensures) ∙ l.invariant.2 in
     let over = digit_past c.args.base c.loop-i.value c.if-digit-most.true in
     c.no_number-then-digit-most.ensures
-    ∙ rw (lt-ltb _ _ c.if-digit-base.false, lt-leb _ _ over) c decided
+    ∙ rw (lt-ltb _ _ c.if-digit-base.false, lt-leb _ _ over) at decided
 
 pub returns-then-value-most : goal.returns-then-value-most
 returns-then-value-most c =
