@@ -77,7 +77,7 @@ module _ {image : List ℕ} {items : List Item} (p : Standing image items) where
   pub lays_single : (request : Single) → SingleRequest request → is_single (item_type request.kind) ≡ true → 1 ≤ p.spare
       → Lays p (single_bytes request) [] (units (entry_address (length p.front)) (single_bytes request))
   lays_single request asked typed room =
-      let size = length-item_bytes request.namespace request.kind 1 request.chunk request.key request.bytes asked.key_size_lem asked.bytes_size in
+      let size = length-item_bytes request.namespace request.kind 1 request.chunk request.key request.bytes asked.key_size asked.bytes_size in
       lays_whole (single_bytes request) [] (single_bytes request) size
       (unfold chunks in (ap (λ (entry : List ℕ). entry ∷ []) (take_all 32 (single_bytes request) (omega arith))))
       (single_whole request typed []) room
@@ -117,7 +117,7 @@ module _ {image : List ℕ} {items : List Item} (p : Standing image items) where
         (bytes_append (bytes_little_endian 2 (length payload)) (bytes_append (bytes_ones 2) (bytes_little_endian 4 (crc32 crc_start payload))))
 
     header_size : length header ≡ 32
-    header_size = length-item_bytes request.namespace request.kind (span_for (length payload)) request.chunk request.key (sized_data payload) asked.key_size_lem (length-sized_data payload)
+    header_size = length-item_bytes request.namespace request.kind (span_for (length payload)) request.chunk request.key (sized_data payload) asked.key_size (length-sized_data payload)
 
     -- the header entry first
     after_header : run (units (entry_address start) header) image ≡ (front_bytes p ++ header) ++ (replicate (32 * k) 0xFF ++ behind)

@@ -134,7 +134,7 @@ module _ (request : Variable) (payload : List ℕ) (asked : VariableRequest requ
   -- the data field, after the key
   new_data : drop 24 (variable_header request payload) ≡ sized_data payload
   unfolding item_bytes
-  new_data = drop_at request.key (sized_data payload) 16 asked.key_size_lem
+  new_data = drop_at request.key (sized_data payload) 16 asked.key_size
 
   pub new_size : size_of (variable_header request payload) ≡ length payload
   unfolding sized_data

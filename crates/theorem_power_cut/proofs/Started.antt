@@ -108,7 +108,7 @@ module _ {image : List ℕ} {items : List Item} (p : Standing image items) where
         lays = rw next_is (lays_single p request asked typed room);
         entries_is = refl;
         span_is = refl;
-        page_is = item_read page 1 request.namespace request.kind 1 request.chunk request.key request.bytes asked.key_size_lem;
+        page_is = item_read page 1 request.namespace request.kind 1 request.chunk request.key request.bytes asked.key_size;
       }
   -- a payload
   laying (a_variable request payload asked) ok room =
@@ -127,7 +127,7 @@ module _ {image : List ℕ} {items : List Item} (p : Standing image items) where
         span_is = counted;
         page_is =
             rw (← counted)
-            (item_read page span request.namespace request.kind span request.chunk request.key (sized_data payload) asked.key_size_lem);
+            (item_read page span request.namespace request.kind span request.chunk request.key (sized_data payload) asked.key_size);
       }
   -- a copy
   laying (a_copy source index entries kept) ok room =

@@ -34,7 +34,7 @@ pub record SingleRequest (request : Single) : Type 0 where
   pub namespace : request.namespace < 256
   pub kind : request.kind < 256
   pub chunk : request.chunk < 256
-  pub key_size_lem : length request.key ≡ 16
+  pub key_size : length request.key ≡ 16
   pub key : all_bytes request.key ≡ true
   pub bytes_size : length request.bytes ≡ 8
   pub bytes : all_bytes request.bytes ≡ true
@@ -44,7 +44,7 @@ pub record VariableRequest (request : Variable) (payload : List ℕ) : Type 0 wh
   pub namespace : request.namespace < 256
   pub kind : request.kind < 256
   pub chunk : request.chunk < 256
-  pub key_size_lem : length request.key ≡ 16
+  pub key_size : length request.key ≡ 16
   pub key : all_bytes request.key ≡ true
   pub bytes : all_bytes payload ≡ true
 

@@ -32,13 +32,13 @@ use Rattle.theorem_power_cut.specs.History.{all_bytes, SingleRequest, VariableRe
 
 asked_single : SingleRequest single
 asked_single =
-    record { namespace = omega arith; kind = omega arith; chunk = omega arith; key_size_lem = refl; key = refl; bytes_size = refl; bytes = refl }
+    record { namespace = omega arith; kind = omega arith; chunk = omega arith; key_size = refl; key = refl; bytes_size = refl; bytes = refl }
 
 abbrev payload : List ℕ
 payload = replicate 33 7
 
 asked_sized : VariableRequest sized payload
-asked_sized = record { namespace = omega arith; kind = omega arith; chunk = omega arith; key_size_lem = refl; key = refl; bytes = refl }
+asked_sized = record { namespace = omega arith; kind = omega arith; chunk = omega arith; key_size = refl; key = refl; bytes = refl }
 
 -- ---- the page after each step
 
