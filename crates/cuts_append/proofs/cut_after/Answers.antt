@@ -1,5 +1,4 @@
 -- `cut_after` meets its contract: opening is given what the append left.
-use borrow.Author.Rules.{rules}
 use Rattle.cuts_append.proofs.cut_after.Goals as goal
 
 pub returns : goal.returns

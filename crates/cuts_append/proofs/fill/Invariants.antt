@@ -1,11 +1,7 @@
 -- `fill` meets its contract: the bytes passed are the first of the curve.
-use mathlib.Core.Path.{◌≡◌, refl, sym, ap, ◌∙◌}
-use Prim.Native.Nat.{◌-◌, ◌%◌, ◌<◌, ◌≤◌}
-use lib.ListN.{length, take, length-set}
-use lib.Seq.{take_all, take-suc-set}
-use native.Mathlib.Omega.{arith}
-use native.Mathlib.Numerals.{add-one}
-use borrow.Author.Rules.{rules}
+use mathlib.Core.Path.{◌≡◌}
+use Prim.Native.Nat.{◌-◌, ◌≤◌}
+use lib.ListN.{length, take}
 use Rattle.cuts_append.specs.Cutting.{curve}
 use Rattle.cuts_append.proofs.fill.Given as goal
 

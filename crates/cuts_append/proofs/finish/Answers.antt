@@ -1,5 +1,4 @@
 -- `finish` meets its contract: it is the append with a stop that no append reaches.
-use borrow.Author.Rules.{rules}
 use Rattle.cuts_append.proofs.finish.Goals as goal
 
 pub returns : goal.returns

@@ -1,6 +1,5 @@
 -- `found_after` meets its contract: what is found in the cut.
 use mathlib.Core.Path.{ap, ◌∙◌}
-use borrow.Author.Rules.{rules}
 use Rattle.cuts_append.specs.Cutting.{found_in}
 use Rattle.cuts_append.proofs.found_after.Goals as goal
 

@@ -1,7 +1,5 @@
 -- `found_in` meets its contract: opening's answer decides, then which of the two sectors it is.
 use mathlib.Core.Path.{sym, ◌∙◌}
-use borrow.Author.Rules.{rules}
-use borrow.Author.Tests.{not-true, not-false}
 use Rattle.cuts_append.proofs.found_in.Goals as goal
 
 pub returns-then-same_sector : goal.returns-then-same_sector

@@ -1,14 +1,9 @@
 -- `last_alike` meets its contract: every cut passed is found as the first is.
 use mathlib.Core.Path.{◌≡◌, refl, sym, ◌∙◌}
 use mathlib.Core.Bool.{Bool, true, false}
-use mathlib.Core.List.{List}
-use Prim.Native.Nat.{ℕ, ◌+◌, ◌-◌, ◌≤◌}
+use Prim.Native.Nat.{ℕ, ◌+◌, ◌-◌}
 use native.Mathlib.Omega.{arith}
 use borrow.Author.Rules.{rules}
-use borrow.Author.Tests.{not-true, not-false}
-use Rattle.cuts_request.specs.declared.Request.{Request}
-use Rattle.cuts_append.specs.declared.Sector.{Sector}
-use Rattle.cuts_append.specs.Cutting.{found_after, same_found, first_not, last_alike}
 use Rattle.cuts_append.proofs.Laws.{same_found_lem, same_of, alike_one, alike_more, first_pass_lem, first_here, first_end}
 use Rattle.cuts_append.proofs.last_alike.Invariants.{alike}
 use Rattle.cuts_append.proofs.last_alike.Goals as goal

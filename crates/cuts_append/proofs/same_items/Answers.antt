@@ -1,5 +1,4 @@
 -- `same_items` meets its contract: each return is the first part that differs, or the lists decide.
-use borrow.Author.Rules.{rules}
 use borrow.Author.Tests.{eq-eqb, ne_eqb}
 use Rattle.cuts_append.proofs.same_items.Goals as goal
 

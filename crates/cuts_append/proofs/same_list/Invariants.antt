@@ -1,14 +1,8 @@
 -- `same_list` meets its contract: the places passed are the same, so those after them decide.
-use mathlib.Core.Path.{◌≡◌, refl, sym, ◌∙◌}
-use mathlib.Core.Bool.{◌&&◌}
-use Prim.Native.Nat.{◌+◌, ◌-◌, ◌≤◌}
-use native.Mathlib.Omega.{arith}
-use borrow.Author.Rules.{rules}
-use borrow.Author.Tests.{eq-eqb, ne_eqb}
-use lib.ListN.{drop, get_or}
-use Rattle.page.specs.Record.{no_item}
-use Rattle.cuts_append.specs.Cutting.{same_place, same_list}
-use Rattle.cuts_append.proofs.Laws.{same_list-drop, same_list_end}
+use mathlib.Core.Path.{◌≡◌}
+use Prim.Native.Nat.{◌≤◌}
+use lib.ListN.{drop}
+use Rattle.cuts_append.specs.Cutting.{same_list}
 use Rattle.cuts_append.proofs.same_list.Given as goal
 
 abbrev pub invariant-loop-i : goal.invariant-loop-i

@@ -1,7 +1,5 @@
 -- `same_sector` meets its contract: the items decide, then the bytes.
 use mathlib.Core.Path.{sym, ◌∙◌}
-use borrow.Author.Rules.{rules}
-use borrow.Author.Tests.{not-true, not-false}
 use Rattle.cuts_append.proofs.same_sector.Goals as goal
 
 pub returns : goal.returns
