@@ -8,11 +8,10 @@
 # NVS_SOURCE names the folder of the Rust's files, src of esp-nvs 0.6.3, from the repository's root where it is no absolute path.
 set -u
 
-parts='layout rust_layout picture archive rust_tests compare_tests compare fault tried'
+parts='rust_layout picture archive rust_tests compare_tests compare fault tried'
 
 title() { # PART
     case $1 in
-    layout) echo 'the files of crates/ are laid out as rt fmt does it' ;;
     rust_layout) echo 'the files of rust/, compare/ and bench/ are laid out as rustfmt does it' ;;
     picture) echo 'docs/house.svg is the picture that crates.txt gives' ;;
     archive) echo 'boundary/archive.sh makes the archive' ;;
@@ -34,8 +33,6 @@ skip() { # REASON
     return 77
 }
 
-part_layout() { rt fmt --check; }
-
 part_rust_layout() {
     cargo fmt --version || { skip 'cargo fmt is not at hand'; return; }
     wrong=0
@@ -54,9 +51,7 @@ part_picture() {
 part_archive() {
     # An archive of an earlier run must not pass for this one's.
     rm -f "$archive"
-    [ -e target/rlib/boundary.rlib ] || note='boundary was not proved: rt check boundary ran first'
-    # Where nothing has changed this takes a second. On another processor than x86-64 the archive is made of what it leaves.
-    rt check boundary && boundary/archive.sh "$archive"
+    boundary/archive.sh "$archive"
 }
 
 # Without an archive the tests of rust/ pass, and test no call.
@@ -90,7 +85,7 @@ part_fault() {
 part_tried() {
     copy=$out/tried
     rm -rf "$copy"
-    mkdir -p "$copy/target" && cp -R crates.txt crates "$copy" || return
+    mkdir -p "$copy" && tar -c --exclude=out crates.txt crates | tar -x -C "$copy" || return
     rm -rf "$copy"/crates/*/must-fail
     set --
     for folder in "$copy"/crates/*/tried; do
@@ -99,9 +94,9 @@ part_tried() {
         set -- "$@" "$(basename "${folder%/tried}")"
     done
     [ $# -gt 0 ] || { skip 'there is none'; return; }
-    # What is proved already is not proved again.
-    for kept in rlib stamp; do
-        [ ! -d "target/$kept" ] || cp -R "target/$kept" "$copy/target" || return
+    # An edit is tried over what a check of its crate kept.
+    for crate; do
+        (cd "$copy/crates/$crate" && rt check) || return
     done
     (cd "$copy" && rt must-fail "$@")
     status=$?

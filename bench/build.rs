@@ -1,7 +1,7 @@
 //! Links the archive of the C boundary, and takes the Rust's `software_crc32` as it stands.
 //!
 //! NVS_SOURCE names the folder of the Rust's sources, and NVS_PAGE_LIB the archive, each from the repository's root where it is no
-//! absolute path. Without NVS_PAGE_LIB the archive is target/staticlib/libboundary.a, where `rt staticlib boundary` puts it.
+//! absolute path. Without NVS_PAGE_LIB the archive is target/staticlib/libboundary.a, where `boundary/archive.sh target/staticlib/libboundary.a` puts it.
 
 use std::{env, fs, path::Path};
 
@@ -41,7 +41,7 @@ fn link_archive(root: &Path) {
     println!("cargo:rerun-if-changed={}", archive.display());
     assert!(
         archive.is_file(),
-        "there is no archive at {}: run `rt staticlib boundary`, or name one by NVS_PAGE_LIB",
+        "there is no archive at {}: run `boundary/archive.sh target/staticlib/libboundary.a`, or name one by NVS_PAGE_LIB",
         archive.display()
     );
     let folder = archive.parent().expect("a file lies in a folder");

@@ -28,7 +28,7 @@ fn main() {
     println!("cargo:rerun-if-env-changed=NVS_SOURCE");
     assert!(
         env::var("DEP_NVS_PAGE_LINKED").is_ok(),
-        "there is no archive of the page calls: run `rt staticlib boundary`, or name one by NVS_PAGE_LIB"
+        "there is no archive of the page calls: run `boundary/archive.sh target/staticlib/libboundary.a`, or name one by NVS_PAGE_LIB"
     );
     let root = Path::new(env!("CARGO_MANIFEST_DIR")).parent().expect("the crate lies in the repository");
     let named = env::var("NVS_SOURCE")

@@ -2,7 +2,7 @@
 //! DEP_NVS_PAGE_LINKED in the build script of a crate above.
 //!
 //! NVS_PAGE_LIB names the archive, from the repository's root where it is no absolute path. Without it the archive is
-//! target/staticlib/libboundary.a, where `rt staticlib boundary` puts it.
+//! target/staticlib/libboundary.a, where `boundary/archive.sh target/staticlib/libboundary.a` puts it.
 
 use std::env;
 use std::path::Path;

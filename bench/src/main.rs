@@ -4,7 +4,7 @@
 //! and `side by side`, where every start is 0xFFFFFFFF, so that the processor may overlap calls.
 //! A number is the median of the rounds; in each round the two take turns.
 //!
-//! To run it: `rt staticlib boundary` at the root, then here `NVS_SOURCE=DIR cargo run --release`, with the folder of the Rust's sources.
+//! To run it: `boundary/archive.sh target/staticlib/libboundary.a` at the root, then here `NVS_SOURCE=DIR cargo run --release`, with the folder of the Rust's sources.
 
 use std::hint::black_box;
 use std::time::Instant;

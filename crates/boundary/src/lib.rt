@@ -3,6 +3,8 @@
 // Each is total. BadCall, 255, is for a buffer of fixed size that has another length; it is checked before everything else,
 // and changes nothing. What is left to the caller: each pointer is good for its length, and a buffer that is written overlaps
 // no other.
+#![tactic(auto)]
+
 pub mod reading;
 pub mod sums;
 pub mod writing;

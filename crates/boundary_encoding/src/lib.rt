@@ -1,4 +1,6 @@
 // The buffers of the C boundary: a record as 675 bytes, an answer as 57.
+#![tactic(auto)]
+
 ghost use Rattle.std.specs.Prelude.{◌≡◌, cond, ◌++◌, ◌+◌, ◌≤◌, length, take, drop};
 ghost use Rattle.sector.specs.Layout.{entries_per_page, chunks};
 ghost use Rattle.boundary_encoding.specs.Encoding.{state_byte, state_of_byte, is_state, place_bytes, places_bytes, place_of, places_of, record_size, list_offset, head_bytes, record_bytes, record_of, answer_size, statistics_bytes, answer_bytes};

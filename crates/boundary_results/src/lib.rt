@@ -1,4 +1,6 @@
 // What the C functions hand back: an answer's number in document 01, with the answer or the new record laid out in its buffer.
+#![tactic(auto)]
+
 ghost use Rattle.std.specs.Prelude.{◌≡◌, length};
 ghost use Rattle.sector.specs.Answers.{number_of, carried_byte};
 ghost use Rattle.boundary_encoding.specs.Encoding.{record_size, record_bytes, answer_size, answer_bytes, no_counts};

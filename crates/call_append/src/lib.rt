@@ -1,5 +1,7 @@
 // Appending items (page.rs): a single entry, a namespace. Data of any length is appended by `call_append_variable`; its
 // definitions are here.
+#![tactic(auto)]
+
 ghost use Rattle.std.specs.Prelude.{◌≡◌, true, ◌+◌, ◌≤◌, length, take};
 ghost use Rattle.flash.specs.Flash.{run};
 ghost use Rattle.page.specs.Record.{next_free, fit_to_use};

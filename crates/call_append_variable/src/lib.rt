@@ -1,4 +1,6 @@
 // Appending data of any length (page.rs): its header entry, and the data after it.
+#![tactic(auto)]
+
 ghost use Rattle.std.specs.Prelude.{◌≡◌, true, ◌++◌, ◌+◌, ◌≤◌, length, take};
 ghost use Rattle.flash.specs.Flash.{units, run};
 ghost use Rattle.page.specs.Record.{next_free, fit_to_use};

@@ -1,4 +1,6 @@
 // Copying an item in from another sector (page.rs `copy_item_from`): its entries go over as they lie.
+#![tactic(auto)]
+
 ghost use Rattle.std.specs.Prelude.{◌≡◌, ◌||◌, not, [], ◌∷◌, ◌+◌, ◌<◌, eqb, ltb};
 ghost use Rattle.page.specs.Writing.{over_free};
 ghost use Rattle.sector.specs.declared.Answer.TheVariants.{KeyNotFound, CorruptedData};

@@ -1,4 +1,6 @@
 // Erasing (page.rs): `erase_item`.
+#![tactic(auto)]
+
 ghost use Rattle.std.specs.Prelude.{◌≡◌, true, false, ◌||◌, not, [], ◌∷◌, ◌+◌, ◌≤◌, eqb, ltb, length, take};
 ghost use Rattle.page.specs.Record.{fit_to_use, without, padded, with_erased};
 ghost use Rattle.sector.specs.declared.Answer.TheVariants.{CorruptedData, NotWritten};

@@ -1,4 +1,6 @@
 // How many items outside namespace 0 a page can hold (page.rs, hashed_item_bound).
+#![tactic(auto)]
+
 ghost use Rattle.std.specs.Prelude.{◌≡◌, List, ℕ, ◌≤◌, length, drop};
 ghost use Rattle.sector.specs.Map.{states_of};
 ghost use Rattle.call_hash_bound.specs.Bound.{passed_behind, count_of, bound_from, hash_bound};

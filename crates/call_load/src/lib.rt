@@ -1,4 +1,6 @@
 // Reading items out of a sector (page.rs): load and raw read. The data after an item's header is read by `call_load_data`.
+#![tactic(auto)]
+
 ghost use Rattle.std.specs.Prelude.{◌≡◌, ◌+◌, ◌*◌, ◌<◌, length};
 ghost use Rattle.sector.specs.Layout.{sector_size, entries_per_page, entry_at};
 ghost use Rattle.sector.specs.Item.{loads};

@@ -1,4 +1,6 @@
 // Reading the data after an item's header out of a sector (page.rs): load data.
+#![tactic(auto)]
+
 ghost use Rattle.std.specs.Prelude.{◌≡◌, ◌++◌, ◌^◌, ◌≤◌, ◌<◌, length, drop};
 ghost use Rattle.sector.specs.Answers.{refusal};
 ghost use Rattle.sector.specs.Layout.{entries_per_page};

@@ -1,4 +1,6 @@
 // The calls that write the page header (page.rs): initialise and mark full.
+#![tactic(auto)]
+
 ghost use Rattle.std.specs.Prelude.{◌≡◌};
 ghost use Rattle.crc.specs.Crc.{crc32};
 ghost use Rattle.sector.specs.Answers.{refusal};

@@ -1,4 +1,6 @@
 // Purging by index (page.rs): `purge_entries`.
+#![tactic(auto)]
+
 ghost use Rattle.std.specs.Prelude.{◌≡◌, ◌+◌, ◌*◌, ◌<◌, ◌≤◌, length, replicate};
 ghost use Rattle.flash.specs.Flash.{units, run};
 ghost use Rattle.sector.specs.Layout.{sector_size, entries_per_page, entry_size, entry_address};

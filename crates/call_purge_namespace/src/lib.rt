@@ -1,4 +1,6 @@
 // Purging by namespace (page.rs): `purge_erased_for_namespace`.
+#![tactic(auto)]
+
 ghost use Rattle.std.specs.Prelude.{◌≡◌, false, ◌&&◌, zero, length};
 ghost use Rattle.flash.specs.Flash.{run};
 ghost use Rattle.sector.specs.Item.{loads};

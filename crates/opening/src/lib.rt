@@ -1,4 +1,6 @@
 // Opening a sector: the reading, and the map and record that it leaves. Added by this port.
+#![tactic(auto)]
+
 ghost use Rattle.std.specs.Prelude.{◌≡◌, cond, length, take};
 ghost use Rattle.flash.specs.Flash.{run};
 ghost use Rattle.page.specs.Record.{uninitialized};

@@ -1,5 +1,7 @@
 // What a page holds, read out of its image without programming it (01, 'Opening'): what its header says, state before version
 // before CRC; and its kept items, one after the other.
+#![tactic(auto)]
+
 ghost use Rattle.std.specs.Prelude.{◌≡◌, length};
 ghost use Rattle.sector.specs.Layout.{sector_size};
 ghost use Rattle.opening_found.specs.Found.{header_verdict_of, next_kept};

@@ -1,4 +1,6 @@
 // The marks that opening leaves after the walk: entries before the free tail shut, and the map in two passes.
+#![tactic(auto)]
+
 ghost use Rattle.std.specs.Prelude.{◌≡◌, ◌&&◌, not, cond, ◌+◌, ◌*◌, ◌<◌, ◌≤◌, length, take};
 ghost use Rattle.flash.specs.Flash.{all_ones, run};
 ghost use Rattle.sector.specs.Layout.{sector_size, entries_per_page, entry_at, entries_of, same_bytes};

@@ -1,4 +1,6 @@
 // The verdict at an entry (01, 'Opening'): each rule in its order, and the reason where one refuses.
+#![tactic(auto)]
+
 ghost use Rattle.std.specs.Prelude.{◌≡◌, [], ◌∷◌, ◌+◌, ◌≤◌, ◌<◌, length, take, drop};
 ghost use Rattle.sector.specs.Layout.{sector_size, entries_per_page, entry_at, entries_of, span_of};
 ghost use Rattle.sector.specs.Map.{state_at, states_of};

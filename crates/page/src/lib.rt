@@ -1,4 +1,6 @@
 // The record of a page (page.rs, ThinPage), by value, whether it is fit to use, and what the writing calls share.
+#![tactic(auto)]
+
 pub mod fit;
 
 use sector::{Answer, PageState};

@@ -1,5 +1,7 @@
 // What the writing calls share: the checks before anything is written, an item's entries and marks under a budget of units,
 // the new record, and what a call hands back.
+#![tactic(auto)]
+
 ghost use Rattle.std.specs.Prelude.{◌≡◌, true, cond, [], ◌∷◌, ◌++◌, ◌+◌, ◌-◌, ◌*◌, ◌<◌, ◌≤◌, eqb, ltb, length, take, set};
 ghost use Rattle.flash.specs.Flash.{units, run};
 ghost use Rattle.sector.specs.Answers.{refusal};

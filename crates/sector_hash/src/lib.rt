@@ -1,4 +1,6 @@
 // The hash by which a page's list finds an item (raw.rs `Item`).
+#![tactic(auto)]
+
 ghost use Rattle.std.specs.Prelude.{◌≡◌};
 ghost use Rattle.sector.specs.Item.{hash_of, hash_of_item};
 ghost use Rattle.sector.specs.Layout.{key_of};

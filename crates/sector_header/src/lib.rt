@@ -1,4 +1,6 @@
 // The page header (raw.rs `PageHeader`): its state word, its CRC, and the bytes of a new one.
+#![tactic(auto)]
+
 ghost use Rattle.std.specs.Prelude.{◌≡◌, ◌≤◌, length};
 ghost use Rattle.sector.specs.Header.{header_crc, state_of_word, header_bytes};
 ghost use Rattle.sector.specs.Layout.{entry_size};

@@ -1,4 +1,6 @@
 // Items (raw.rs `Item`): the CRC of a header entry, whether it loads, and the bytes of a new one.
+#![tactic(auto)]
+
 ghost use Rattle.std.specs.Prelude.{◌≡◌};
 ghost use Rattle.sector.specs.Item.{item_crc, crc_right, loads, item_bytes, sized_data};
 

@@ -1,4 +1,6 @@
 // The entry map: two bits an entry, entry i at bit 2 * (i mod 4) of map byte i / 4.
+#![tactic(auto)]
+
 ghost use Rattle.std.specs.Prelude.{◌≡◌, ◌+◌, ◌/◌, ◌%◌, ◌^◌, ◌<◌, ◌≤◌, length};
 ghost use Rattle.sector.specs.declared.EntryMapState.TheVariants.{Written};
 ghost use Rattle.sector.specs.Map.{bits_of, state_of_bits, same_state, state_at, unpack, entry_state, statistics, mark_mask, mark_range};

@@ -1,4 +1,6 @@
 // Item types (raw.rs `ItemType`): what a type byte decides.
+#![tactic(auto)]
+
 ghost use Rattle.std.specs.Prelude.{◌≡◌};
 ghost use Rattle.sector.specs.Types.{byte_of, kind_of, type_byte, is_known, primitive_width};
 

@@ -1,10 +1,9 @@
 -- `entries_of` meets its contract: after k turns the first k entries are those of the bytes.
 use mathlib.Core.Path.{◌≡◌, sym, ap, ◌∙◌}
 use mathlib.Core.List.{[]}
-use Prim.Native.Nat.{ℕ, ◌+◌, ◌-◌, ◌*◌, ◌≤◌}
+use Prim.Native.Nat.{ℕ, ◌+◌, ◌-◌, ◌*◌}
 use native.Mathlib.Omega.{arith}
-use borrow.Author.Rules.{rules}
-use lib.ListN.{length, take, drop, length-set}
+use lib.ListN.{take, drop, length-set}
 use Rattle.sector.specs.Layout.{chunks}
 use Rattle.sector.proofs.Laws.{length_chunks, get_d_chunks}
 use Rattle.boundary_encoding.proofs.Laws.{made_next, made_whole}
@@ -16,9 +15,8 @@ add_sub n k = omega arith
 
 pub loop-k-preserved : goal.loop-k-preserved
 loop-k-preserved c =
-    let part = c in
-    let at = part.loop-k in
-    let bytes = part.args.bytes.now in
+    let at = c.loop-k in
+    let bytes = c.args.bytes.now in
     let long = length_chunks 126 bytes in
     let entry = c.array_32.ensures ∙ ap (λ (n : ℕ). take n (drop (32 * at.k) bytes)) (add_sub 32 at.k) ∙ sym (get_d_chunks 126 at.k bytes (omega arith)) in
     (omega arith, simp length-set at.invariant.1, made_next at.entries (chunks 126 bytes) at.k [] (omega arith) (omega (arith, long)) at.invariant.2 entry)

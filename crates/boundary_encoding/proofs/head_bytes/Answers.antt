@@ -1,5 +1,4 @@
 -- `head_bytes` meets its contract: the bytes of the four fields, one after the other.
-use borrow.Author.Rules.{rules}
 use Rattle.boundary_encoding.proofs.head_bytes.Goals as goal
 
 pub returns : goal.returns

@@ -1,5 +1,4 @@
 -- `place_at` meets its contract: the bytes from the offset on are those that are read.
-use borrow.Author.Rules.{rules}
 use lib.Seq.{get_or-drop}
 use Rattle.boundary_encoding.proofs.place_at.Goals as goal
 

@@ -1,5 +1,4 @@
 -- `place_bytes` meets its contract: the four bytes of the hash, then the index.
-use borrow.Author.Rules.{rules}
 use Rattle.boundary_encoding.proofs.place_bytes.Goals as goal
 
 pub returns : goal.returns

@@ -1,9 +1,8 @@
 -- `places_of` meets its contract: after k turns the first k places are those of the bytes.
-use mathlib.Core.Path.{◌≡◌, sym, ap, ◌∙◌}
-use Prim.Native.Nat.{◌-◌, ◌*◌, ◌≤◌}
+use mathlib.Core.Path.{sym, ap, ◌∙◌}
+use Prim.Native.Nat.{◌-◌, ◌*◌}
 use native.Mathlib.Omega.{arith}
-use borrow.Author.Rules.{rules}
-use lib.ListN.{length, take, drop, length-set}
+use lib.ListN.{drop, length-set}
 use lib.Seq.{drop-drop}
 use Rattle.page.specs.Record.{no_item}
 use Rattle.boundary_encoding.specs.Encoding.{place_of, places_of}

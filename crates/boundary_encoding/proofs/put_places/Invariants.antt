@@ -2,10 +2,8 @@
 use mathlib.Core.Path.{◌≡◌}
 use mathlib.Core.List.{◌++◌}
 use Prim.Native.Nat.{◌+◌, ◌-◌, ◌*◌, ◌≤◌}
-use native.Mathlib.Omega.{arith}
-use borrow.Author.Rules.{rules}
 use lib.ListN.{length, drop}
-use Rattle.boundary_encoding.proofs.Laws.{places_front, places_front_none, places_front_next, places_front_all, length_laid}
+use Rattle.boundary_encoding.proofs.Laws.{places_front}
 use Rattle.boundary_encoding.proofs.put_places.Given as goal
 
 abbrev pub invariant-loop-k : goal.invariant-loop-k

@@ -1,10 +1,9 @@
 -- `put_record` meets its contract: head, map and counts lie one after the other, and the places after them.
-use mathlib.Core.Path.{◌≡◌, refl, sym, ap, ◌∙◌}
+use mathlib.Core.Path.{◌≡◌, refl, ap, ◌∙◌}
 use mathlib.Core.List.{List, ◌++◌, append_assoc}
 use Prim.Native.Nat.{ℕ}
 use native.Mathlib.Omega.{arith}
-use borrow.Author.Rules.{rules}
-use lib.ListN.{length, length-map}
+use lib.ListN.{length}
 use Rattle.sector.proofs.Laws.{over}
 use Rattle.boundary_encoding.specs.Encoding.{head_bytes, count_bytes, places_bytes, record_bytes}
 use Rattle.boundary_encoding.proofs.Laws.{parts_laid}
@@ -20,17 +19,12 @@ pub returns : goal.returns
 unfolding record_bytes
 returns c =
     let map_long : length c.args.page.map ≡ 32 = c.well_formed.0.1.1.1.1.1.1.0.1.0.1 in
-    let placed = c in
-    let third = placed in
-    let second = third in
-    let first = second in
-    let start = first in
-    let page = start.args.page in
-    let base = start.args.out.now in
-    let head = first.head_bytes-head.ensures in
-    placed.put_places.ensures
+    let page = c.args.page in
+    let base = c.args.out.now in
+    let head = c.head_bytes-head.ensures in
+    c.put_places.ensures
     ∙ ap (λ (front : List ℕ). front ++ places_bytes page.list)
     (parts_laid base (head_bytes page) page.map (count_bytes page) 10 32 3 refl map_long refl
-    (first.put.ensures ∙ ap (over base 0) head) second.put-2.ensures third.put-3.ensures)
+    (c.put.ensures ∙ ap (over base 0) head) c.put-2.ensures c.put-3.ensures)
     ∙ append_assoc (head_bytes page) (page.map ++ count_bytes page) (places_bytes page.list)
     ∙ ap (λ (rest : List ℕ). head_bytes page ++ rest) (append_assoc page.map (count_bytes page) (places_bytes page.list))

@@ -1,8 +1,5 @@
 -- `state_of_byte` meets its contract: the arms are the six states in the order of their bytes.
 use borrow.Author.Rules.{rules}
-use mathlib.Core.Path.{sym}
-use native.Mathlib.Omega.{arith}
-use Rattle.boundary_encoding.proofs.Laws.{no_state}
 use Rattle.boundary_encoding.proofs.state_of_byte.Goals as goal
 
 pub returns-in_default : goal.returns-in_default

@@ -1,5 +1,4 @@
 -- `give` meets its contract: the answer is laid out with no counts.
-use borrow.Author.Rules.{rules}
 use Rattle.boundary_results.proofs.give.Goals as goal
 
 pub returns : goal.returns

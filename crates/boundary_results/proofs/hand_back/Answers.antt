@@ -1,6 +1,5 @@
 -- `hand_back` meets its contract: the record is laid out where the number is 0, and stays otherwise.
 use mathlib.Core.Path.{◌≡◌, sym, ◌∙◌}
-use borrow.Author.Rules.{rules}
 use borrow.Author.Tests.{eq-eqb, ne_eqb}
 use Rattle.sector.specs.Answers.{number_of}
 use Rattle.boundary_results.specs.Handing.{record_left}
@@ -19,11 +18,9 @@ returns-then-number-ne0 c =
 pub returns : goal.returns
 unfolding record_left
 returns c =
-    let put = c in
-    let else = put in
-    let answer = else.args.outcome.answer in
-    let done : number_of answer ≡ 0 = sym else.number_of-number.ensures ∙ else.if-number-ne0.false in
+    let answer = c.args.outcome.answer in
+    let done : number_of answer ≡ 0 = sym c.number_of-number.ensures ∙ c.if-number-ne0.false in
     record {
       number = sym done;
-      buffer = rw (eq-eqb (number_of answer) 0 done) put.put_record.ensures;
+      buffer = rw (eq-eqb (number_of answer) 0 done) c.put_record.ensures;
     }

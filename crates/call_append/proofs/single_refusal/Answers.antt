@@ -2,8 +2,7 @@
 use mathlib.Core.Path.{◌≡◌, refl, sym, ◌∙◌}
 use mathlib.Core.Bool.{true}
 use mathlib.Core.List.{[], ◌∷◌}
-use borrow.Author.Rules.{rules}
-use borrow.Author.Tests.{lt-ltb, le-ltb, not-true, not-false}
+use borrow.Author.Tests.{lt-ltb, le-ltb}
 use Rattle.page.specs.Writing.{over_free}
 use Rattle.sector.proofs.Laws.{accepted_done, refusal_refused, refusal_passed}
 use Rattle.sector.specs.Answers.{accepted}
@@ -25,8 +24,7 @@ returns-then-is_bad_single c =
     let tested : let z = c.args in accepted (front_checks z.image.now z.page) ≡ c.is_done.result = let z = c.args in
     accepted_done (front_checks z.image.now z.page) refl c.append_refusal-refused.ensures c.is_done.ensures in
     let passed : let z = c.args in accepted (front_checks z.image.now z.page) ≡ true = tested ∙ c.if-not-is_done.false in
-    let else = c in
-    let z = else.args in
+    let z = c.args in
     refusal_passed (front_checks z.image.now z.page) (single_request z.item ∷ over_free z.page 1 ∷ []) passed
     (rw (sym c.is_bad_single.ensures ∙ c.if-is_bad_single.true))
 
@@ -35,19 +33,15 @@ returns-then-get_free_entry_count-lt1 c =
     let tested : let z = c.args in accepted (front_checks z.image.now z.page) ≡ c.is_done.result = let z = c.args in
     accepted_done (front_checks z.image.now z.page) refl c.append_refusal-refused.ensures c.is_done.ensures in
     let passed : let z = c.args in accepted (front_checks z.image.now z.page) ≡ true = tested ∙ c.if-not-is_done.false in
-    let request = c in
-    let else = request in
-    let z = else.args in
+    let z = c.args in
     refusal_passed (front_checks z.image.now z.page) (single_request z.item ∷ over_free z.page 1 ∷ []) passed
-    (rw (sym request.is_bad_single.ensures ∙ request.if-is_bad_single.false, ← c.get_free_entry_count.ensures, lt-ltb _ _ c.if-get_free_entry_count-lt1.true))
+    (rw (sym c.is_bad_single.ensures ∙ c.if-is_bad_single.false, ← c.get_free_entry_count.ensures, lt-ltb _ _ c.if-get_free_entry_count-lt1.true))
 
 pub returns : goal.returns
 returns c =
     let tested : let z = c.args in accepted (front_checks z.image.now z.page) ≡ c.is_done.result = let z = c.args in
     accepted_done (front_checks z.image.now z.page) refl c.append_refusal-refused.ensures c.is_done.ensures in
     let passed : let z = c.args in accepted (front_checks z.image.now z.page) ≡ true = tested ∙ c.if-not-is_done.false in
-    let request = c in
-    let else = request in
-    let z = else.args in
+    let z = c.args in
     refusal_passed (front_checks z.image.now z.page) (single_request z.item ∷ over_free z.page 1 ∷ []) passed
-    (rw (sym request.is_bad_single.ensures ∙ request.if-is_bad_single.false, ← c.get_free_entry_count.ensures, le-ltb _ _ c.if-get_free_entry_count-lt1.false))
+    (rw (sym c.is_bad_single.ensures ∙ c.if-is_bad_single.false, ← c.get_free_entry_count.ensures, le-ltb _ _ c.if-get_free_entry_count-lt1.false))

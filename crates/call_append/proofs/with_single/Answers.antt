@@ -1,6 +1,5 @@
 -- `with_single` meets its contract: an item of one entry, under its own hash.
 use mathlib.Core.Path.{ap, ◌∙◌}
-use borrow.Author.Rules.{rules}
 use Rattle.page.specs.Record.{with_item}
 use Rattle.call_append.proofs.with_single.Goals as goal
 

@@ -2,8 +2,6 @@
 use mathlib.Core.Path.{◌≡◌, refl, ap, ◌∙◌}
 use mathlib.Core.Bool.{true}
 use lib.ListN.{take}
-use borrow.Author.Rules.{rules}
-use borrow.Author.Tests.{not-true, not-false}
 use Rattle.page.specs.Record.{Page, with_item}
 use Rattle.page.specs.Writing.{stops}
 use Rattle.sector.proofs.Laws.{accepted_done}
@@ -41,10 +39,9 @@ write_single-total-requires c =
     let tested : let z = c.args in accepted (single_checks z.image.now z.page z.item) ≡ c.is_done.result = let z = c.args in
     accepted_done (single_checks z.image.now z.page z.item) refl c.single_refusal-refused.ensures c.is_done.ensures in
     let passed : let z = c.args in accepted (single_checks z.image.now z.page z.item) ≡ true = tested ∙ c.if-not-is_done.false in
-    let new = c in
-    let z = new.args in
+    let z = c.args in
     let room = single_room z.image.now z.page z.item passed in
-    (room.whole, room.room, ap (λ (page : Page). page.map) new.with_single-new.ensures)
+    (room.whole, room.room, ap (λ (page : Page). page.map) c.with_single-new.ensures)
 
 pub returns : goal.returns
 unfolding append_single append_single_image
@@ -52,10 +49,8 @@ returns c =
     let tested : let z = c.args in accepted (single_checks z.image.now z.page z.item) ≡ c.is_done.result = let z = c.args in
     accepted_done (single_checks z.image.now z.page z.item) refl c.single_refusal-refused.ensures c.is_done.ensures in
     let passed : let z = c.args in accepted (single_checks z.image.now z.page z.item) ≡ true = tested ∙ c.if-not-is_done.false in
-    let written = c in
-    let new = written in
-    let z = new.args in
+    let z = c.args in
     let both = call_ended (single_checks z.image.now z.page z.item) z.page (with_single z.page z.item) z.image.now
     z.stop (single_plan z.page z.item) passed
-    written.write_single-total.ensures.total new.with_single-new.ensures written.write_single-total.ensures.image c.ended.ensures in
+    c.write_single-total.ensures.total c.with_single-new.ensures c.write_single-total.ensures.image c.ended.ensures in
     record { answer = both.0; image = both.1 }

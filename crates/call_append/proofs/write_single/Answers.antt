@@ -1,5 +1,4 @@
 -- `write_single` meets its contract: what `write_entries` does of the entry's bytes is the plan.
-use borrow.Author.Rules.{rules}
 use Rattle.page.specs.Writing.{item_plan}
 use Rattle.call_append.specs.Append.{single_plan}
 use Rattle.call_append.proofs.write_single.Goals as goal
@@ -7,9 +6,6 @@ use Rattle.call_append.proofs.write_single.Goals as goal
 pub returns : goal.returns
 unfolding single_plan item_plan
 returns c =
-    let written = c in
-    let next = written in
-    let start = next in
-    rw (← start.requires.2, ← next.item_bytes-entry.ensures, ← next.get_next_free_entry-start.ensures)
-    (let both = written.write_entries.ensures in
+    rw (← c.requires.2, ← c.item_bytes-entry.ensures, ← c.get_next_free_entry-start.ensures)
+    (let both = c.write_entries.ensures in
     record { total = both.total; image = both.image })

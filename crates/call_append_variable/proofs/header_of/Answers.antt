@@ -2,7 +2,6 @@
 use mathlib.Core.Path.{ap₂, ◌∙◌}
 use mathlib.Core.List.{List}
 use Prim.Native.Nat.{ℕ}
-use borrow.Author.Rules.{rules}
 use Rattle.sector.specs.Item.{item_bytes}
 use Rattle.call_append_variable.proofs.header_of.Goals as goal
 

@@ -5,8 +5,7 @@ use mathlib.Core.List.{List, [], ◌∷◌}
 use Prim.Native.Nat.{ℕ}
 use lib.Dec.{ltb}
 use lib.ListN.{length}
-use borrow.Author.Rules.{rules}
-use borrow.Author.Tests.{lt-ltb, le-ltb, not-true, not-false}
+use borrow.Author.Tests.{lt-ltb, le-ltb}
 use Rattle.page.specs.Record.{Page}
 use Rattle.page.specs.Writing.{over_free}
 use Rattle.sector.proofs.Laws.{accepted_done, refusal_refused, refusal_passed}
@@ -36,8 +35,7 @@ returns-then-is_bad_variable c =
     let tested : let z = c.args in accepted (front_checks z.image.now z.page) ≡ c.is_done.result = let z = c.args in
     accepted_done (front_checks z.image.now z.page) refl c.append_refusal-refused.ensures c.is_done.ensures in
     let passed : let z = c.args in accepted (front_checks z.image.now z.page) ≡ true = tested ∙ c.if-not-is_done.false in
-    let else = c in
-    let z = else.args in
+    let z = c.args in
     refusal_passed (front_checks z.image.now z.page) (data_checks z.page z.item (span_for (length z.payload.now))) passed
     (rw (sym c.is_bad_variable.ensures ∙ c.if-is_bad_variable.true))
 
@@ -47,9 +45,7 @@ returns-then-span-gt-ENTRIES_PER_PAGE c =
     accepted_done (front_checks z.image.now z.page) refl c.append_refusal-refused.ensures c.is_done.ensures in
     let passed : let z = c.args in accepted (front_checks z.image.now z.page) ≡ true = tested ∙ c.if-not-is_done.false in
     let requested : (variable_request c.args.item).0 ≡ false = sym c.is_bad_variable.ensures ∙ c.if-is_bad_variable.false in
-    let request = c in
-    let else = request in
-    let z = else.args in
+    let z = c.args in
     rw (← c.span_for-span.ensures)
     (refusal_passed (front_checks z.image.now z.page) (data_checks z.page z.item c.span_for-span.result) passed
     (rw (requested, lt-ltb _ _ c.if-span-gt-ENTRIES_PER_PAGE.true)))
@@ -60,13 +56,10 @@ returns-then-span-get_free_entry_count c =
     accepted_done (front_checks z.image.now z.page) refl c.append_refusal-refused.ensures c.is_done.ensures in
     let passed : let z = c.args in accepted (front_checks z.image.now z.page) ≡ true = tested ∙ c.if-not-is_done.false in
     let requested : (variable_request c.args.item).0 ≡ false = sym c.is_bad_variable.ensures ∙ c.if-is_bad_variable.false in
-    let long = c in
-    let request = long in
-    let else = request in
-    let z = else.args in
-    rw (← long.span_for-span.ensures)
-    (refusal_passed (front_checks z.image.now z.page) (data_checks z.page z.item long.span_for-span.result) passed
-    (rw (requested, le-ltb _ _ long.if-span-gt-ENTRIES_PER_PAGE.false, ← c.get_free_entry_count.ensures, lt-ltb _ _ c.if-span-get_free_entry_count.true)))
+    let z = c.args in
+    rw (← c.span_for-span.ensures)
+    (refusal_passed (front_checks z.image.now z.page) (data_checks z.page z.item c.span_for-span.result) passed
+    (rw (requested, le-ltb _ _ c.if-span-gt-ENTRIES_PER_PAGE.false, ← c.get_free_entry_count.ensures, lt-ltb _ _ c.if-span-get_free_entry_count.true)))
 
 pub returns : goal.returns
 returns c =
@@ -74,10 +67,7 @@ returns c =
     accepted_done (front_checks z.image.now z.page) refl c.append_refusal-refused.ensures c.is_done.ensures in
     let passed : let z = c.args in accepted (front_checks z.image.now z.page) ≡ true = tested ∙ c.if-not-is_done.false in
     let requested : (variable_request c.args.item).0 ≡ false = sym c.is_bad_variable.ensures ∙ c.if-is_bad_variable.false in
-    let long = c in
-    let request = long in
-    let else = request in
-    let z = else.args in
-    rw (← long.span_for-span.ensures)
-    (refusal_passed (front_checks z.image.now z.page) (data_checks z.page z.item long.span_for-span.result) passed
-    (rw (requested, le-ltb _ _ long.if-span-gt-ENTRIES_PER_PAGE.false, ← c.get_free_entry_count.ensures, le-ltb _ _ c.if-span-get_free_entry_count.false)))
+    let z = c.args in
+    rw (← c.span_for-span.ensures)
+    (refusal_passed (front_checks z.image.now z.page) (data_checks z.page z.item c.span_for-span.result) passed
+    (rw (requested, le-ltb _ _ c.if-span-gt-ENTRIES_PER_PAGE.false, ← c.get_free_entry_count.ensures, le-ltb _ _ c.if-span-get_free_entry_count.false)))

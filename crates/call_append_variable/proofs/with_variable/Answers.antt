@@ -1,7 +1,6 @@
 -- `with_variable` meets its contract: an item of as many entries as the data takes, under its own hash.
 use mathlib.Core.Path.{ap₂, ◌∙◌}
 use Prim.Native.Nat.{ℕ}
-use borrow.Author.Rules.{rules}
 use Rattle.page.specs.Record.{with_item}
 use Rattle.call_append_variable.proofs.with_variable.Goals as goal
 

@@ -15,40 +15,31 @@ use Rattle.call_append_variable.proofs.write_variable.Goals as goal
 
 pub overflow_add-result : goal.overflow_add-result
 overflow_add-result c =
-    let sealed = c in
-    let span = sealed in
-    let bytes = span in
-    let header = bytes in
-    let z = header.args in
-    let at = header.get_next_free_entry-start.result in
+    let z = c.args in
+    let at = c.get_next_free_entry-start.result in
     omega (
       arith,
-      bytes.write_header_and_data-bytes.ensures.total,
-      length-append (units (entry_address at) header.header_of-header.result) (units (entry_address (at + 1)) z.payload.now),
-      length-units_le (entry_address at) header.header_of-header.result,
+      c.write_header_and_data-bytes.ensures.total,
+      length-append (units (entry_address at) c.header_of-header.result) (units (entry_address (at + 1)) z.payload.now),
+      length-units_le (entry_address at) c.header_of-header.result,
       length-units_le (entry_address (at + 1)) z.payload.now,
-      sealed.seal-sealed.ensures.total,
-      length_seal_le at span.span_for-span.result z.map (search rules),
+      c.seal-sealed.ensures.total,
+      length_seal_le at c.span_for-span.result z.map (search rules),
     )
 
 pub returns : goal.returns
 unfolding variable_plan item_plan
 returns c =
-    let sealed = c in
-    let span = sealed in
-    let bytes = span in
-    let header = bytes in
-    let start = header in
-    let z = start.args in
-    let at = header.get_next_free_entry-start.result in
-    rw (← start.requires.2, ← header.header_of-header.ensures, ← span.span_for-span.ensures, ← header.get_next_free_entry-start.ensures)
+    let z = c.args in
+    let at = c.get_next_free_entry-start.result in
+    rw (← c.requires.2, ← c.header_of-header.ensures, ← c.span_for-span.ensures, ← c.get_next_free_entry-start.ensures)
     (let both = run_both z.budget
-    (units (entry_address at) header.header_of-header.result ++ units (entry_address (at + 1)) z.payload.now)
-    (map_units at span.span_for-span.result z.map ++ full_units (at + span.span_for-span.result))
+    (units (entry_address at) c.header_of-header.result ++ units (entry_address (at + 1)) z.payload.now)
+    (map_units at c.span_for-span.result z.map ++ full_units (at + c.span_for-span.result))
     z.image.now
-    bytes.write_header_and_data-bytes.ensures.total
-    sealed.seal-sealed.ensures.total
-    sealed.remaining.ensures
-    bytes.write_header_and_data-bytes.ensures.image
-    sealed.seal-sealed.ensures.image in
+    c.write_header_and_data-bytes.ensures.total
+    c.seal-sealed.ensures.total
+    c.remaining.ensures
+    c.write_header_and_data-bytes.ensures.image
+    c.seal-sealed.ensures.image in
     record { total = both.0; image = both.1 })

@@ -2,8 +2,6 @@
 use mathlib.Core.Path.{◌≡◌, refl, ap, ◌∙◌}
 use mathlib.Core.Bool.{true}
 use lib.ListN.{take}
-use borrow.Author.Rules.{rules}
-use borrow.Author.Tests.{not-true, not-false}
 use Rattle.page.specs.Record.{Page, with_item}
 use Rattle.page.specs.Writing.{stops}
 use Rattle.sector.proofs.Laws.{accepted_done}
@@ -41,10 +39,9 @@ write_variable-total-requires c =
     let tested : let z = c.args in accepted (variable_checks z.image.now z.page z.item z.payload.now) ≡ c.is_done.result = let z = c.args in
     accepted_done (variable_checks z.image.now z.page z.item z.payload.now) refl c.variable_refusal-refused.ensures c.is_done.ensures in
     let passed : let z = c.args in accepted (variable_checks z.image.now z.page z.item z.payload.now) ≡ true = tested ∙ c.if-not-is_done.false in
-    let new = c in
-    let z = new.args in
+    let z = c.args in
     let room = variable_room z.image.now z.page z.item z.payload.now passed in
-    (room.whole, room.room, ap (λ (page : Page). page.map) new.with_variable-new.ensures)
+    (room.whole, room.room, ap (λ (page : Page). page.map) c.with_variable-new.ensures)
 
 pub returns : goal.returns
 unfolding append_variable append_variable_image
@@ -52,10 +49,8 @@ returns c =
     let tested : let z = c.args in accepted (variable_checks z.image.now z.page z.item z.payload.now) ≡ c.is_done.result = let z = c.args in
     accepted_done (variable_checks z.image.now z.page z.item z.payload.now) refl c.variable_refusal-refused.ensures c.is_done.ensures in
     let passed : let z = c.args in accepted (variable_checks z.image.now z.page z.item z.payload.now) ≡ true = tested ∙ c.if-not-is_done.false in
-    let written = c in
-    let new = written in
-    let z = new.args in
+    let z = c.args in
     let both = call_ended (variable_checks z.image.now z.page z.item z.payload.now) z.page (with_variable z.page z.item z.payload.now) z.image.now
     z.stop (variable_plan z.page z.item z.payload.now) passed
-    written.write_variable-total.ensures.total new.with_variable-new.ensures written.write_variable-total.ensures.image c.ended.ensures in
+    c.write_variable-total.ensures.total c.with_variable-new.ensures c.write_variable-total.ensures.image c.ended.ensures in
     record { answer = both.0; image = both.1 }

@@ -4,8 +4,6 @@ use mathlib.Core.Bool.{true}
 use mathlib.Core.List.{List, ◌++◌}
 use Prim.Native.Nat.{ℕ, ◌+◌, ◌-◌, ◌≤◌}
 use native.Mathlib.Omega.{arith}
-use borrow.Author.Rules.{rules}
-use borrow.Author.Tests.{not-true, not-false}
 use lib.ListN.{length, take, drop, length-take}
 use Rattle.flash.specs.Flash.{Unit4, units, run}
 use Rattle.sector.proofs.Laws.{accepted_done}
@@ -56,7 +54,6 @@ with_item-new-requires c =
     let spans : let n = span_of c.entry_at-entry.result in (1 ≤ n) × (index + n ≤ entries_per_page) × (next_free page + n ≤ entries_per_page) = let fit = fits in
     let same = ap span_of c.entry_at-entry.ensures in
     omega arith in
-    let read = c in
     (fits.fit, spans.0, spans.2)
 
 pub entry_address-first-requires : goal.entry_address-first-requires
@@ -110,7 +107,6 @@ slice_bounds-write_entries-end c =
     let spans : let n = span_of c.entry_at-entry.result in (1 ≤ n) × (index + n ≤ entries_per_page) × (next_free page + n ≤ entries_per_page) = let fit = fits in
     let same = ap span_of c.entry_at-entry.ensures in
     omega arith in
-    let read = c in
     let fit = fits in
     let behind = spans in
     let end = c.entry_address-end.ensures in
@@ -128,7 +124,6 @@ write_entries-total-requires c =
     let spans : let n = span_of c.entry_at-entry.result in (1 ≤ n) × (index + n ≤ entries_per_page) × (next_free page + n ≤ entries_per_page) = let fit = fits in
     let same = ap span_of c.entry_at-entry.ensures in
     omega arith in
-    let read = c in
     let behind = spans in
     let first = c.entry_address-first in
     let end = c.entry_address-end in (
@@ -160,8 +155,6 @@ returns c =
     let programmed : c.write_entries-total.new.image ≡ run (take c.args.stop plan) image = c.write_entries-total.ensures.image ∙ ap (λ (units : List Unit4). run (take c.args.stop units) image) planned in
     let copied : c.with_item-new.result ≡ with_copy page source index = c.with_item-new.ensures
     ∙ with_copied page source c.entry_at-entry.result index _ c.entry_at-entry.ensures c.hash_of_item-hash.ensures in
-    let done = c in
-    let at = done in
     let both = call_ended (copy_checks image page source index) page (with_copy page source index) image
-    at.args.stop plan accepts total copied programmed c.ended.ensures in
+    c.args.stop plan accepts total copied programmed c.ended.ensures in
     record { answer = both.0; image = both.1 }

@@ -2,8 +2,7 @@
 use mathlib.Core.Path.{◌≡◌, refl, sym, ◌∙◌}
 use mathlib.Core.Bool.{cond}
 use mathlib.Core.List.{List, [], ◌∷◌}
-use borrow.Author.Rules.{rules}
-use borrow.Author.Tests.{eq-eqb, ne_eqb, lt-ltb, le-ltb, not-true, not-false}
+use borrow.Author.Tests.{eq-eqb, ne_eqb, lt-ltb, le-ltb}
 use lib.ListN.{drop}
 use Rattle.page.specs.Writing.{bad_record, not_active}
 use Rattle.sector.specs.Answers.{Check, refusal, accepted}
@@ -25,8 +24,7 @@ returns-then-not-is_done c =
     let recorded : accepted record_checks ≡ c.is_done.result = accepted_done record_checks refl c.active_refusal-refused.ensures c.is_done.ensures in
     let checks : List Check = copy_checks c.args.image.now c.args.page c.args.source.now c.args.index in
     let decided : refusal checks ≡ cond (accepted record_checks) (refusal (drop 4 checks)) (refusal record_checks) = rw (eq-eqb _ _ c.if-image-ne-SECTOR_SIZE.false, eq-eqb _ _ c.if-source-ne-SECTOR_SIZE.false) (refusal_append record_checks (drop 4 checks)) in
-    let at = c in
-    at.active_refusal-refused.ensures ∙ sym (decided ∙ rw (recorded ∙ c.if-not-is_done.true))
+    c.active_refusal-refused.ensures ∙ sym (decided ∙ rw (recorded ∙ c.if-not-is_done.true))
 
 pub returns-then-index-ge-ENTRIES_PER_PAGE : goal.returns-then-index-ge-ENTRIES_PER_PAGE
 returns-then-index-ge-ENTRIES_PER_PAGE c =
@@ -34,7 +32,6 @@ returns-then-index-ge-ENTRIES_PER_PAGE c =
     let recorded : accepted record_checks ≡ c.is_done.result = accepted_done record_checks refl c.active_refusal-refused.ensures c.is_done.ensures in
     let checks : List Check = copy_checks c.args.image.now c.args.page c.args.source.now c.args.index in
     let decided : refusal checks ≡ cond (accepted record_checks) (refusal (drop 4 checks)) (refusal record_checks) = rw (eq-eqb _ _ c.if-image-ne-SECTOR_SIZE.false, eq-eqb _ _ c.if-source-ne-SECTOR_SIZE.false) (refusal_append record_checks (drop 4 checks)) in
-    let at = c in
     sym (decided ∙ rw (recorded ∙ c.if-not-is_done.false, le-ltb _ _ c.if-index-ge-ENTRIES_PER_PAGE.true))
 
 pub returns : goal.returns
@@ -43,7 +40,5 @@ returns c =
     let recorded : accepted record_checks ≡ c.is_done.result = accepted_done record_checks refl c.active_refusal-refused.ensures c.is_done.ensures in
     let checks : List Check = copy_checks c.args.image.now c.args.page c.args.source.now c.args.index in
     let decided : refusal checks ≡ cond (accepted record_checks) (refusal (drop 4 checks)) (refusal record_checks) = rw (eq-eqb _ _ c.if-image-ne-SECTOR_SIZE.false, eq-eqb _ _ c.if-source-ne-SECTOR_SIZE.false) (refusal_append record_checks (drop 4 checks)) in
-    let entered = c in
-    let at = entered in
-    let accepts = recorded ∙ entered.if-not-is_done.false in
-    c.item_refusal.ensures ∙ sym (decided ∙ rw (accepts, lt-ltb _ _ entered.if-index-ge-ENTRIES_PER_PAGE.false, ← c.entry_at-entry.ensures))
+    let accepts = recorded ∙ c.if-not-is_done.false in
+    c.item_refusal.ensures ∙ sym (decided ∙ rw (accepts, lt-ltb _ _ c.if-index-ge-ENTRIES_PER_PAGE.false, ← c.entry_at-entry.ensures))

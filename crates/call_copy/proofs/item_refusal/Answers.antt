@@ -3,8 +3,7 @@ use mathlib.Core.Path.{◌≡◌, sym, ◌∙◌}
 use mathlib.Core.Bool.{true, false, ◌||◌}
 use Prim.Native.Nat.{◌+◌}
 use native.Mathlib.Omega.{arith}
-use borrow.Author.Rules.{rules}
-use borrow.Author.Tests.{eq-eqb, ne_eqb, lt-ltb, le-ltb, not-true, not-false}
+use borrow.Author.Tests.{eq-eqb, ne_eqb, lt-ltb, le-ltb}
 use lib.Dec.{eqb, ltb}
 use Rattle.sector.specs.Item.{loads}
 use Rattle.sector.specs.Layout.{entries_per_page, span_of}
@@ -30,7 +29,6 @@ returns-then-span-get_free_entry_count c =
     let loaded : loads c.args.entry ≡ true = sym c.loads.ensures ∙ c.if-not-loads.false in
     let spans : let args = c.args in (eqb (span_of args.entry) 0 || ltb entries_per_page (args.index + span_of args.entry)) ≡ false = let args = c.args in
     rw (ne_eqb _ _ c.if-span-eq0.false, le-ltb entries_per_page (args.index + span_of args.entry) (omega arith)) in
-    let spanned = c in
     rw (loaded, spans, ← c.get_free_entry_count.ensures, lt-ltb _ _ c.if-span-get_free_entry_count.true)
 
 pub returns : goal.returns
@@ -38,5 +36,4 @@ returns c =
     let loaded : loads c.args.entry ≡ true = sym c.loads.ensures ∙ c.if-not-loads.false in
     let spans : let args = c.args in (eqb (span_of args.entry) 0 || ltb entries_per_page (args.index + span_of args.entry)) ≡ false = let args = c.args in
     rw (ne_eqb _ _ c.if-span-eq0.false, le-ltb entries_per_page (args.index + span_of args.entry) (omega arith)) in
-    let spanned = c in
     rw (loaded, spans, ← c.get_free_entry_count.ensures, le-ltb _ _ c.if-span-get_free_entry_count.false)

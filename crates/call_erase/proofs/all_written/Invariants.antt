@@ -1,16 +1,11 @@
 -- `call_erase::all_written` meets its contract: at each turn the entries from i on are all Written exactly where all of them are.
-use mathlib.Core.Path.{◌≡◌, sym, ap, ◌∙◌}
-use mathlib.Core.Bool.{Bool, ◌&&◌}
-use Prim.Native.Nat.{ℕ, ◌+◌, ◌-◌, ◌≤◌}
-use native.Mathlib.Omega.{arith}
-use borrow.Author.Rules.{rules}
-use borrow.Author.Tests.{not-true, not-false}
+use mathlib.Core.Path.{◌≡◌}
+use Prim.Native.Nat.{◌+◌, ◌-◌, ◌≤◌}
 use lib.ListN.{take, drop}
 use Rattle.flash.specs.Flash.{every}
 use Rattle.sector.specs.declared.EntryMapState.TheVariants.{Written}
 use Rattle.sector.specs.Map.{states_of, same_state}
 use Rattle.call_erase.specs.Erase.{all_written}
-use Rattle.call_erase.proofs.Laws.{written_next}
 use Rattle.call_erase.proofs.all_written.Given as goal
 
 abbrev pub invariant-loop-i : goal.invariant-loop-i

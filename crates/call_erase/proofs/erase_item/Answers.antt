@@ -3,8 +3,6 @@ use mathlib.Core.Path.{◌≡◌, refl, ap, ◌∙◌}
 use mathlib.Core.Bool.{true}
 use mathlib.Core.List.{List}
 use Prim.Native.Nat.{ℕ}
-use borrow.Author.Rules.{rules}
-use borrow.Author.Tests.{not-true, not-false}
 use Rattle.flash.specs.Flash.{Unit4, run}
 use Rattle.sector.proofs.Laws.{accepted_done}
 use Rattle.page.proofs.Checks.{call_whole}
@@ -21,10 +19,9 @@ returns-then-not-is_done c =
     let page : Page = c.args.page in
     let checks : List Check = erase_checks image page c.args.index c.args.span in
     let checked : accepted checks ≡ c.is_done.result = accepted_done checks refl c.erase_refusal-refused.ensures c.is_done.ensures in
-    let at = c in
     let refused = checked ∙ c.if-not-is_done.true in
     record {
-      answer = rw (refused, at.erase_refusal-refused.ensures);
+      answer = rw (refused, c.erase_refusal-refused.ensures);
       image = rw refused;
     }
 
@@ -58,13 +55,9 @@ returns c =
     let checked : accepted checks ≡ c.is_done.result = accepted_done checks refl c.erase_refusal-refused.ensures c.is_done.ensures in
     let accepts : accepted checks ≡ true = checked ∙ c.if-not-is_done.false in
     let fits : EraseFits image page c.args.index c.args.span = erase_fits _ _ _ _ accepts in
-    let marked = c in
-    let made = marked in
-    let passed = made in
-    let at = passed in
-    let index = at.args.index in
-    let span = at.args.span in
-    let planned = plan_erased page made.with_erased-new.result index span made.with_erased-new.ensures fits.spans in
-    let both = call_whole checks page _ image (erase_plan page index span) accepts made.with_erased-new.ensures
-    (marked.write_marks.ensures.image ∙ ap (λ (plan : List Unit4). run plan image) planned) in
+    let index = c.args.index in
+    let span = c.args.span in
+    let planned = plan_erased page c.with_erased-new.result index span c.with_erased-new.ensures fits.spans in
+    let both = call_whole checks page _ image (erase_plan page index span) accepts c.with_erased-new.ensures
+    (c.write_marks.ensures.image ∙ ap (λ (plan : List Unit4). run plan image) planned) in
     record { answer = both.0; image = both.1 }

@@ -1,9 +1,8 @@
 -- `call_erase::with_erased` meets its contract: each field is what its own step ensures, and the entries erased are among those used.
-use mathlib.Core.Path.{◌≡◌, sym, ◌∙◌}
+use mathlib.Core.Path.{◌≡◌}
 use Prim.Native.Nat.{◌≤◌}
 use native.Mathlib.Omega.{arith}
-use borrow.Author.Rules.{rules}
-use lib.ListN.{length, length-map}
+use lib.ListN.{length}
 use Rattle.page.specs.Record.{with_erased}
 use Rattle.page.proofs.Laws.{Fit, fit_clauses}
 use Rattle.call_erase.proofs.Laws.{written_le}
@@ -28,7 +27,6 @@ overflow_add-result c =
     let long : length c.args.page.map ≡ 32 = c.well_formed.0.1.1.1.1.1.1.0.1.0.1 in
     let used : c.args.span ≤ c.args.page.used = let clauses = fit in
     omega (arith, written_le c.args.page.map c.args.index c.args.span long c.requires.1 c.requires.2) in
-    let start = c in
     let clauses = fit in
     let less = used in
     omega arith
@@ -36,5 +34,4 @@ overflow_add-result c =
 pub returns : goal.returns
 unfolding with_erased
 returns c =
-    let places = c in
-    rw (places.without-places.ensures.0, places.without-places.ensures.1, places.mark_range-map.ensures)
+    rw (c.without-places.ensures.0, c.without-places.ensures.1, c.mark_range-map.ensures)

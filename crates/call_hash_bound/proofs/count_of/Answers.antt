@@ -1,5 +1,4 @@
 -- `call_hash_bound::count_of` meets its contract: each `return` is one side of the test of `counted`.
-use borrow.Author.Rules.{rules}
 use borrow.Author.Tests.{eq-eqb, ne_eqb}
 use Rattle.call_hash_bound.proofs.count_of.Goals as goal
 

@@ -1,5 +1,4 @@
 -- `call_hash_bound::hashed_item_bound` meets its contract: the walk from entry 0 on is the definition's.
-use borrow.Author.Rules.{rules}
 use Rattle.call_hash_bound.specs.Bound.{hash_bound}
 use Rattle.call_hash_bound.proofs.hashed_item_bound.Goals as goal
 

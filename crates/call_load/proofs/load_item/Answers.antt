@@ -3,8 +3,6 @@ use mathlib.Core.Path.{◌≡◌, refl, sym, ◌∙◌}
 use mathlib.Core.Bool.{true}
 use mathlib.Core.List.{List}
 use Prim.Native.Nat.{ℕ}
-use borrow.Author.Rules.{rules}
-use borrow.Author.Tests.{not-true, not-false}
 use Rattle.sector.specs.Answers.{accepted}
 use Rattle.sector.proofs.Laws.{accepted_done}
 use Rattle.call_load.specs.Load.{entry_checks, load_item}
@@ -17,9 +15,8 @@ returns-then-not-is_done c =
     let image : List ℕ = c.args.image.now in
     let index : ℕ = c.args.index in
     let checked : accepted (entry_checks image index) ≡ c.is_done.result = accepted_done (entry_checks image index) refl c.entry_refusal-answer.ensures c.is_done.ensures in
-    let at = c in
     let refused = checked ∙ c.if-not-is_done.true in
-    rw (loaded_or_refused (entry_checks image index) _ _ refused, ← at.entry_refusal-answer.ensures) c.refused.ensures
+    rw (loaded_or_refused (entry_checks image index) _ _ refused, ← c.entry_refusal-answer.ensures) c.refused.ensures
 
 pub entry_at-item-requires : goal.entry_at-item-requires
 entry_at-item-requires c =
@@ -35,7 +32,6 @@ loads_at-requires c =
     let index : ℕ = c.args.index in
     let checked : accepted (entry_checks image index) ≡ c.is_done.result = accepted_done (entry_checks image index) refl c.entry_refusal-answer.ensures c.is_done.ensures in
     let enters : accepted (entry_checks image index) ≡ true = checked ∙ c.if-not-is_done.false in
-    let at = c in
     let fits = entry_fits image index enters in
     (fits.0, fits.1, c.entry_at-item.ensures)
 
@@ -46,12 +42,9 @@ returns-then-not-loads_at c =
     let index : ℕ = c.args.index in
     let checked : accepted (entry_checks image index) ≡ c.is_done.result = accepted_done (entry_checks image index) refl c.entry_refusal-answer.ensures c.is_done.ensures in
     let enters : accepted (entry_checks image index) ≡ true = checked ∙ c.if-not-is_done.false in
-    let tested = c in
-    let past = tested in
-    let at = past in
     rw (
       loaded_or-accepted (entry_checks image index) _ _ enters,
-      sym tested.loads_at.ensures ∙ c.if-not-loads_at.true,
+      sym c.loads_at.ensures ∙ c.if-not-loads_at.true,
     )
     c.refused-then-not-loads_at.ensures
 
@@ -62,11 +55,8 @@ returns c =
     let index : ℕ = c.args.index in
     let checked : accepted (entry_checks image index) ≡ c.is_done.result = accepted_done (entry_checks image index) refl c.entry_refusal-answer.ensures c.is_done.ensures in
     let enters : accepted (entry_checks image index) ≡ true = checked ∙ c.if-not-is_done.false in
-    let tested = c in
-    let past = tested in
-    let at = past in
     rw (
       loaded_or-accepted (entry_checks image index) _ _ enters,
-      sym tested.loads_at.ensures ∙ c.if-not-loads_at.false,
-      tested.entry_at-item.ensures,
+      sym c.loads_at.ensures ∙ c.if-not-loads_at.false,
+      c.entry_at-item.ensures,
     )

@@ -4,7 +4,6 @@ use mathlib.Core.Bool.{false}
 use mathlib.Core.List.{List}
 use Prim.Native.Nat.{ℕ, ◌+◌, ◌-◌}
 use native.Mathlib.Omega.{arith}
-use borrow.Author.Rules.{rules}
 use lib.ListN.{take, drop}
 use Rattle.flash.specs.Flash.{all_ones}
 use Rattle.sector.specs.Item.{known_type, crc_right, loads}
@@ -29,9 +28,8 @@ returns-then-is_known c =
     ap (λ (n : ℕ). all_ones (take n (drop start args.image.now))) (sym e) ∙ sym c.all_ones.ensures in
     let bytes_there : let args = c.args in all_ones (entry_at args.image.now args.index) ≡ false = asked ∙ c.if-all_ones.false in
     let type_asked : let args = c.args in known_type (entry_at args.image.now args.index) ≡ c.is_known.result = sym (c.is_known.ensures ∙ ap (λ (entry : List ℕ). known_type entry) c.requires.2) in
-    let tested = c in
     rw (bytes_there, type_asked ∙ c.if-is_known.true)
-    (c.crc_right.ensures ∙ ap (λ (entry : List ℕ). crc_right entry) tested.requires.2)
+    (c.crc_right.ensures ∙ ap (λ (entry : List ℕ). crc_right entry) c.requires.2)
 
 pub returns-else-is_known : goal.returns-else-is_known
 unfolding loads
@@ -42,5 +40,4 @@ returns-else-is_known c =
     ap (λ (n : ℕ). all_ones (take n (drop start args.image.now))) (sym e) ∙ sym c.all_ones.ensures in
     let bytes_there : let args = c.args in all_ones (entry_at args.image.now args.index) ≡ false = asked ∙ c.if-all_ones.false in
     let type_asked : let args = c.args in known_type (entry_at args.image.now args.index) ≡ c.is_known.result = sym (c.is_known.ensures ∙ ap (λ (entry : List ℕ). known_type entry) c.requires.2) in
-    let tested = c in
     rw (bytes_there, type_asked ∙ c.if-is_known.false) c.if-is_known.false

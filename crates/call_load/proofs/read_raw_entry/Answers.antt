@@ -3,8 +3,6 @@ use mathlib.Core.Path.{◌≡◌, refl, ◌∙◌}
 use mathlib.Core.Bool.{true}
 use mathlib.Core.List.{List, []}
 use Prim.Native.Nat.{ℕ}
-use borrow.Author.Rules.{rules}
-use borrow.Author.Tests.{not-true, not-false}
 use Rattle.sector.specs.Answers.{accepted}
 use Rattle.sector.proofs.Laws.{accepted_done}
 use Rattle.call_load.specs.Load.{entry_checks, raw_entry}
@@ -17,9 +15,8 @@ returns-then-not-is_done c =
     let image : List ℕ = c.args.image.now in
     let index : ℕ = c.args.index in
     let checked : accepted (entry_checks image index) ≡ c.is_done.result = accepted_done (entry_checks image index) refl c.entry_refusal-answer.ensures c.is_done.ensures in
-    let at = c in
     let refused = checked ∙ c.if-not-is_done.true in
-    rw (loaded_or_refused (entry_checks image index) [] _ refused, ← at.entry_refusal-answer.ensures) c.refused.ensures
+    rw (loaded_or_refused (entry_checks image index) [] _ refused, ← c.entry_refusal-answer.ensures) c.refused.ensures
 
 pub entry_at-item-requires : goal.entry_at-item-requires
 entry_at-item-requires c =
@@ -36,5 +33,4 @@ returns c =
     let index : ℕ = c.args.index in
     let checked : accepted (entry_checks image index) ≡ c.is_done.result = accepted_done (entry_checks image index) refl c.entry_refusal-answer.ensures c.is_done.ensures in
     let enters : accepted (entry_checks image index) ≡ true = checked ∙ c.if-not-is_done.false in
-    let at = c in
     rw (loaded_or-accepted (entry_checks image index) [] _ enters, c.entry_at-item.ensures)

@@ -1,10 +1,8 @@
 -- `call_load_data::copy_to` meets its contract: after k turns the output's first k bytes are the part's.
 use mathlib.Core.Path.{◌≡◌}
-use mathlib.Core.List.{◌++◌}
-use Prim.Native.Nat.{◌-◌, ◌≤◌}
+use Prim.Native.Nat.{◌-◌}
 use native.Mathlib.Omega.{arith}
-use borrow.Author.Rules.{rules}
-use lib.ListN.{length, take, drop}
+use lib.ListN.{length}
 use lib.Seq.{take-length}
 use Rattle.sector.proofs.Laws.{copied_next}
 use Rattle.call_load_data.proofs.Laws.{length_copied}

@@ -2,12 +2,7 @@
 use mathlib.Core.Path.{◌≡◌}
 use mathlib.Core.List.{◌++◌}
 use Prim.Native.Nat.{◌-◌, ◌≤◌}
-use native.Mathlib.Omega.{arith}
-use borrow.Author.Rules.{rules}
 use lib.ListN.{length, take, drop}
-use lib.Seq.{take-length}
-use Rattle.sector.proofs.Laws.{copied_next}
-use Rattle.call_load_data.proofs.Laws.{length_copied}
 use Rattle.call_load_data.proofs.copy_to.Given as goal
 
 abbrev pub invariant-loop-k : goal.invariant-loop-k

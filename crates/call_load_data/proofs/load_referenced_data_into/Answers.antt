@@ -4,8 +4,6 @@ use mathlib.Core.Bool.{true}
 use mathlib.Core.List.{List, ◌++◌}
 use Prim.Native.Nat.{ℕ, ◌+◌, ◌≤◌}
 use native.Mathlib.Omega.{arith}
-use borrow.Author.Rules.{rules}
-use borrow.Author.Tests.{not-true, not-false}
 use lib.ListN.{length, take, drop}
 use Rattle.sector.specs.declared.Answer.{Answer}
 use Rattle.sector.specs.Answers.{Check, refusal, accepted}
@@ -32,7 +30,6 @@ returns-then-not-is_done c =
     let answered : c.load_item-loaded.result.answer ≡ refusal (load_checks image index) = ap (λ (r : Loaded). r.answer) c.load_item-loaded.ensures
     ∙ loaded_or_answer (load_checks image index) entry in
     let checked : accepted (load_checks image index) ≡ c.is_done.result = accepted_done (load_checks image index) refl answered c.is_done.ensures in
-    let at = c in
     let refused = checked ∙ c.if-not-is_done.true in
     let all = accepted_append (load_checks image index) (payload_checks entry index room) in
     let first = refusal_append (load_checks image index) (payload_checks entry index room) in
@@ -71,7 +68,6 @@ returns-then-not-is_done-2 c =
     ∙ ap (λ (e : List ℕ). refusal (payload_checks e index room)) item_loaded in
     let all_checked : accepted (data_checks image index room) ≡ c.is_done-2.result = rw (accepted_append (load_checks image index) checks, loads)
     (accepted_done checks refl payload_answered c.is_done-2.ensures) in
-    let at = c in
     let refused = all_checked ∙ c.if-not-is_done-2.true in
     let then = refusal_append (load_checks image index) checks in
     record {
@@ -214,10 +210,8 @@ copy_to-requires c =
     let is = rounded in
     let at = c.entry_address-start.ensures in
     omega arith in
-    let here = c in
-    let at = here in
     let fit = inside in
-    let long = length_part image first here.rounded_up.result fit.0 in
+    let long = length_part image first c.rounded_up.result fit.0 in
     omega arith
 
 pub returns : goal.returns
@@ -249,14 +243,12 @@ returns c =
     let is = rounded in
     let at = c.entry_address-start.ensures in
     omega arith in
-    let here = c in
-    let at = here in
     let taken = accepts in
     let done = answered ∙ refusal_accepted (load_checks image index) loads in
-    let output = at.args.output.now in
-    let copied = c.copy_to.ensures ∙ part_copied image output first here.rounded_up.result inside.0 in record {
+    let output = c.args.output.now in
+    let copied = c.copy_to.ensures ∙ part_copied image output first c.rounded_up.result inside.0 in record {
       answer = rw taken (ap₂ {C = DataLoaded} (λ (answer : Answer) (n : ℕ). record { answer = answer; size = n }) done sized);
       output = rw taken
           (copied
-          ∙ ap₂ (λ (n from : ℕ). take n (drop from image) ++ drop n output) rounded here.entry_address-start.ensures);
+          ∙ ap₂ (λ (n from : ℕ). take n (drop from image) ++ drop n output) rounded c.entry_address-start.ensures);
     }

@@ -3,7 +3,6 @@ use mathlib.Core.Path.{◌≡◌, sym, ap, ◌∙◌}
 use mathlib.Core.Bool.{true, false, cond}
 use Prim.Native.Nat.{ℕ, ◌+◌, ◌-◌, ◌*◌}
 use native.Mathlib.Omega.{arith}
-use borrow.Author.Rules.{rules}
 use borrow.Author.Tests.{eq-eqb, ne_eqb, lt-ltb, le-ltb, not-true, not-false}
 use lib.Dec.{ltb}
 use Rattle.sector.specs.declared.Answer.TheVariants.{Done, CorruptedData}
@@ -21,56 +20,44 @@ payload_of k byte e = ap (λ (k : Kind). k.payload) e
 
 pub returns-then-not-kind_of : goal.returns-then-not-kind_of
 returns-then-not-kind_of c =
-    let called = c in
-    rw (sym (payload_of called.kind_of.result (type_byte_of called.args.entry) called.kind_of.ensures) ∙ not-true _ c.if-not-kind_of.true)
+    rw (sym (payload_of c.kind_of.result (type_byte_of c.args.entry) c.kind_of.ensures) ∙ not-true _ c.if-not-kind_of.true)
 
 pub returns-then-span-eq0 : goal.returns-then-span-eq0
 returns-then-span-eq0 c =
-    let payload : has_payload (item_type (type_byte_of c.args.entry)) ≡ true = let called = c in
-    sym (payload_of called.kind_of.result (type_byte_of called.args.entry) called.kind_of.ensures) ∙ not-false _ c.if-not-kind_of.false in
+    let payload : has_payload (item_type (type_byte_of c.args.entry)) ≡ true = sym (payload_of c.kind_of.result (type_byte_of c.args.entry) c.kind_of.ensures) ∙ not-false _ c.if-not-kind_of.false in
     rw (payload, eq-eqb _ _ c.if-span-eq0.true)
 
 pub returns-then-span-index : goal.returns-then-span-index
 returns-then-span-index c =
-    let payload : has_payload (item_type (type_byte_of c.args.entry)) ≡ true = let called = c in
-    sym (payload_of called.kind_of.result (type_byte_of called.args.entry) called.kind_of.ensures) ∙ not-false _ c.if-not-kind_of.false in
+    let payload : has_payload (item_type (type_byte_of c.args.entry)) ≡ true = sym (payload_of c.kind_of.result (type_byte_of c.args.entry) c.kind_of.ensures) ∙ not-false _ c.if-not-kind_of.false in
     let args = c.args in
     rw (payload, ne_eqb _ _ c.if-span-eq0.false, lt-ltb entries_per_page (args.index + span_of args.entry) (omega arith))
 
 pub returns-then-size-span : goal.returns-then-size-span
 returns-then-size-span c =
-    let payload : has_payload (item_type (type_byte_of c.args.entry)) ≡ true = let called = c in
-    sym (payload_of called.kind_of.result (type_byte_of called.args.entry) called.kind_of.ensures) ∙ not-false _ c.if-not-kind_of.false in
+    let payload : has_payload (item_type (type_byte_of c.args.entry)) ≡ true = sym (payload_of c.kind_of.result (type_byte_of c.args.entry) c.kind_of.ensures) ∙ not-false _ c.if-not-kind_of.false in
     let spans : let args = c.args in ltb entries_per_page (args.index + span_of args.entry) ≡ false = let args = c.args in
     le-ltb entries_per_page (args.index + span_of args.entry) (omega arith) in
-    let sized : (room : ℕ) → let args = c.args in let size = c.size_of-size.result in refusal (payload_checks args.entry args.index room) ≡ cond (ltb (entry_size * (span_of args.entry - 1)) size) CorruptedData (cond (ltb room (rounded_up size)) CorruptedData Done) = λ room. let spanned = c in
-    rw (payload, ne_eqb _ _ spanned.if-span-eq0.false, spans, ← c.size_of-size.ensures.0) in
-    let read = c in
-    let entry = read.args.entry in
-    rw (sized, lt-ltb (entry_size * (span_of entry - 1)) read.size_of-size.result c.if-size-span.true)
+    let sized : (room : ℕ) → let args = c.args in let size = c.size_of-size.result in refusal (payload_checks args.entry args.index room) ≡ cond (ltb (entry_size * (span_of args.entry - 1)) size) CorruptedData (cond (ltb room (rounded_up size)) CorruptedData Done) = λ room. rw (payload, ne_eqb _ _ c.if-span-eq0.false, spans, ← c.size_of-size.ensures.0) in
+    let entry = c.args.entry in
+    rw (sized, lt-ltb (entry_size * (span_of entry - 1)) c.size_of-size.result c.if-size-span.true)
 
 pub returns-then-room-rounded_up : goal.returns-then-room-rounded_up
 returns-then-room-rounded_up c =
-    let payload : has_payload (item_type (type_byte_of c.args.entry)) ≡ true = let called = c in
-    sym (payload_of called.kind_of.result (type_byte_of called.args.entry) called.kind_of.ensures) ∙ not-false _ c.if-not-kind_of.false in
+    let payload : has_payload (item_type (type_byte_of c.args.entry)) ≡ true = sym (payload_of c.kind_of.result (type_byte_of c.args.entry) c.kind_of.ensures) ∙ not-false _ c.if-not-kind_of.false in
     let spans : let args = c.args in ltb entries_per_page (args.index + span_of args.entry) ≡ false = let args = c.args in
     le-ltb entries_per_page (args.index + span_of args.entry) (omega arith) in
-    let sized : (room : ℕ) → let args = c.args in let size = c.size_of-size.result in refusal (payload_checks args.entry args.index room) ≡ cond (ltb (entry_size * (span_of args.entry - 1)) size) CorruptedData (cond (ltb room (rounded_up size)) CorruptedData Done) = λ room. let spanned = c in
-    rw (payload, ne_eqb _ _ spanned.if-span-eq0.false, spans, ← c.size_of-size.ensures.0) in
-    let held : (room : ℕ) → let args = c.args in refusal (payload_checks args.entry args.index room) ≡ cond (ltb room (rounded_up c.size_of-size.result)) CorruptedData Done = λ room. let read = c in
-    let entry = read.args.entry in
-    rw (sized, le-ltb (entry_size * (span_of entry - 1)) read.size_of-size.result c.if-size-span.false) in
+    let sized : (room : ℕ) → let args = c.args in let size = c.size_of-size.result in refusal (payload_checks args.entry args.index room) ≡ cond (ltb (entry_size * (span_of args.entry - 1)) size) CorruptedData (cond (ltb room (rounded_up size)) CorruptedData Done) = λ room. rw (payload, ne_eqb _ _ c.if-span-eq0.false, spans, ← c.size_of-size.ensures.0) in
+    let held : (room : ℕ) → let args = c.args in refusal (payload_checks args.entry args.index room) ≡ cond (ltb room (rounded_up c.size_of-size.result)) CorruptedData Done = λ room. let entry = c.args.entry in
+    rw (sized, le-ltb (entry_size * (span_of entry - 1)) c.size_of-size.result c.if-size-span.false) in
     rw (held, ← c.rounded_up.ensures, lt-ltb _ _ c.if-room-rounded_up.true)
 
 pub returns : goal.returns
 returns c =
-    let payload : has_payload (item_type (type_byte_of c.args.entry)) ≡ true = let called = c in
-    sym (payload_of called.kind_of.result (type_byte_of called.args.entry) called.kind_of.ensures) ∙ not-false _ c.if-not-kind_of.false in
+    let payload : has_payload (item_type (type_byte_of c.args.entry)) ≡ true = sym (payload_of c.kind_of.result (type_byte_of c.args.entry) c.kind_of.ensures) ∙ not-false _ c.if-not-kind_of.false in
     let spans : let args = c.args in ltb entries_per_page (args.index + span_of args.entry) ≡ false = let args = c.args in
     le-ltb entries_per_page (args.index + span_of args.entry) (omega arith) in
-    let sized : (room : ℕ) → let args = c.args in let size = c.size_of-size.result in refusal (payload_checks args.entry args.index room) ≡ cond (ltb (entry_size * (span_of args.entry - 1)) size) CorruptedData (cond (ltb room (rounded_up size)) CorruptedData Done) = λ room. let spanned = c in
-    rw (payload, ne_eqb _ _ spanned.if-span-eq0.false, spans, ← c.size_of-size.ensures.0) in
-    let held : (room : ℕ) → let args = c.args in refusal (payload_checks args.entry args.index room) ≡ cond (ltb room (rounded_up c.size_of-size.result)) CorruptedData Done = λ room. let read = c in
-    let entry = read.args.entry in
-    rw (sized, le-ltb (entry_size * (span_of entry - 1)) read.size_of-size.result c.if-size-span.false) in
+    let sized : (room : ℕ) → let args = c.args in let size = c.size_of-size.result in refusal (payload_checks args.entry args.index room) ≡ cond (ltb (entry_size * (span_of args.entry - 1)) size) CorruptedData (cond (ltb room (rounded_up size)) CorruptedData Done) = λ room. rw (payload, ne_eqb _ _ c.if-span-eq0.false, spans, ← c.size_of-size.ensures.0) in
+    let held : (room : ℕ) → let args = c.args in refusal (payload_checks args.entry args.index room) ≡ cond (ltb room (rounded_up c.size_of-size.result)) CorruptedData Done = λ room. let entry = c.args.entry in
+    rw (sized, le-ltb (entry_size * (span_of entry - 1)) c.size_of-size.result c.if-size-span.false) in
     rw (held, ← c.rounded_up.ensures, le-ltb _ _ c.if-room-rounded_up.false)

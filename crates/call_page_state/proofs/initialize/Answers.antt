@@ -5,7 +5,6 @@ use mathlib.Core.List.{[], ◌∷◌}
 use Prim.Native.Nat.{ℕ}
 use native.Mathlib.Omega.{arith}
 use lib.ListN.{length, take}
-use borrow.Author.Tests.{not-true, not-false}
 use Rattle.crc.specs.Crc.{crc32}
 use Rattle.flash.specs.Flash.{run, all_ones}
 use Rattle.page.specs.Writing.{stops}
@@ -16,7 +15,6 @@ use Rattle.sector.specs.Answers.{accepted}
 use Rattle.sector.specs.Header.{header_crc, header_body, header_bytes, is_uninitialized}
 use Rattle.sector.specs.Item.{crc_start}
 use Rattle.call_page_state.specs.Calls.{initialise_checks, initialise_plan, initialised, initialise, initialise_image}
-use borrow.Author.Rules.{rules}
 use Rattle.call_page_state.proofs.initialize.Goals as goal
 
 -- the CRC of a new header is that of its body
@@ -40,16 +38,14 @@ write_aligned-total-requires c =
     let tested : let z = c.args in accepted (initialise_checks z.image.now z.page) ≡ c.is_done.result = let z = c.args in
     accepted_done (initialise_checks z.image.now z.page) refl c.initialize_refusal-refused.ensures c.is_done.ensures in
     let passed : let z = c.args in accepted (initialise_checks z.image.now z.page) ≡ true = tested ∙ c.if-not-is_done.false in
-    let else = c in
-    let z = else.args in
+    let z = c.args in
     let page = z.page in
     let usable = accepted_usable z.image.now page (not (is_uninitialized page.state)) ((not (all_ones z.image.now), CorruptedData) ∷ []) passed in
     omega (arith, usable.whole)
 
 pub initialized-new-requires : goal.initialized-new-requires
 initialized-new-requires c =
-    let bytes = c in
-    c.header_crc-crc.ensures ∙ ap header_crc bytes.header_bytes-header.ensures ∙ header_crc_bytes bytes.args.sequence
+    c.header_crc-crc.ensures ∙ ap header_crc c.header_bytes-header.ensures ∙ header_crc_bytes c.args.sequence
 
 pub returns : goal.returns
 unfolding initialise initialise_image initialise_plan
@@ -58,11 +54,8 @@ returns c =
     accepted_done (initialise_checks z.image.now z.page) refl c.initialize_refusal-refused.ensures c.is_done.ensures in
     let passed : let z = c.args in accepted (initialise_checks z.image.now z.page) ≡ true = tested ∙ c.if-not-is_done.false in
     let written : let z = c.args in let plan = initialise_plan z.sequence in (c.write_aligned-total.result ≡ length plan) × (c.write_aligned-total.new.image ≡ run (take z.stop plan) z.image.now) =
-        (rw (← c.header_bytes-header.ensures) c.write_aligned-total.ensures.total, rw (← c.header_bytes-header.ensures) c.write_aligned-total.ensures.image) in
-    let new = c in
-    let write = new in
-    let else = write in
-    let z = else.args in
+    (rw (← c.header_bytes-header.ensures) c.write_aligned-total.ensures.total, rw (← c.header_bytes-header.ensures) c.write_aligned-total.ensures.image) in
+    let z = c.args in
     let both = call_ended (initialise_checks z.image.now z.page) z.page (initialised z.page z.sequence) z.image.now
-    z.stop (initialise_plan z.sequence) passed written.0 new.initialized-new.ensures written.1 c.ended.ensures in
+    z.stop (initialise_plan z.sequence) passed written.0 c.initialized-new.ensures written.1 c.ended.ensures in
     record { answer = both.0; image = both.1 }

@@ -3,8 +3,7 @@ use mathlib.Core.Path.{◌≡◌, sym, ◌∙◌}
 use mathlib.Core.Bool.{true}
 use lib.Dec.{eqb}
 use lib.ListN.{length}
-use borrow.Author.Rules.{rules}
-use borrow.Author.Tests.{eq-eqb, ne_eqb, not-true, not-false}
+use borrow.Author.Tests.{eq-eqb, ne_eqb}
 use Rattle.sector.specs.Header.{is_uninitialized}
 use Rattle.page.specs.Record.{fit_to_use}
 use Rattle.call_page_state.proofs.initialize_refusal.Goals as goal
@@ -22,7 +21,6 @@ pub returns-then-not-is_uninitialized : goal.returns-then-not-is_uninitialized
 returns-then-not-is_uninitialized c =
     let whole : eqb (length c.args.image.now) 4096 ≡ true = eq-eqb _ _ c.if-image-ne-SECTOR_SIZE.false in
     let fit : fit_to_use c.args.page ≡ true = sym c.fit_to_use.ensures ∙ c.if-not-fit_to_use.false in
-    let passed = c in
     rw (whole, fit, sym c.is_uninitialized.ensures ∙ c.if-not-is_uninitialized.true)
 
 pub returns-then-not-all_ones : goal.returns-then-not-all_ones
@@ -30,7 +28,6 @@ returns-then-not-all_ones c =
     let whole : eqb (length c.args.image.now) 4096 ≡ true = eq-eqb _ _ c.if-image-ne-SECTOR_SIZE.false in
     let fit : fit_to_use c.args.page ≡ true = sym c.fit_to_use.ensures ∙ c.if-not-fit_to_use.false in
     let blank : is_uninitialized c.args.page.state ≡ true = sym c.is_uninitialized.ensures ∙ c.if-not-is_uninitialized.false in
-    let passed = c in
     rw (
       whole,
       fit,
@@ -43,7 +40,6 @@ returns c =
     let whole : eqb (length c.args.image.now) 4096 ≡ true = eq-eqb _ _ c.if-image-ne-SECTOR_SIZE.false in
     let fit : fit_to_use c.args.page ≡ true = sym c.fit_to_use.ensures ∙ c.if-not-fit_to_use.false in
     let blank : is_uninitialized c.args.page.state ≡ true = sym c.is_uninitialized.ensures ∙ c.if-not-is_uninitialized.false in
-    let passed = c in
     rw (
       whole,
       fit,

@@ -4,8 +4,6 @@ use mathlib.Core.Bool.{true, false}
 use mathlib.Core.List.{List, []}
 use native.Mathlib.Omega.{arith}
 use lib.Seq.{take_all}
-use borrow.Author.Rules.{rules}
-use borrow.Author.Tests.{not-true, not-false}
 use Rattle.flash.specs.Flash.{Unit4, run}
 use Rattle.sector.proofs.Laws.{accepted_done}
 use Rattle.page.proofs.Checks.{accepted_usable, call_refused, call_whole}
@@ -39,10 +37,9 @@ returns c =
     let tested : let z = c.args in accepted (mark_full_checks z.image.now z.page) ≡ c.is_done.result = let z = c.args in
     accepted_done (mark_full_checks z.image.now z.page) refl c.append_refusal-refused.ensures c.is_done.ensures in
     let passed : let z = c.args in accepted (mark_full_checks z.image.now z.page) ≡ true = tested ∙ c.if-not-is_done.false in
-    let written = c in
-    let z = written.args in
+    let z = c.args in
     let both = call_whole (mark_full_checks z.image.now z.page) z.page (marked_full z.page) z.image.now mark_full_plan
     passed
     c.marked_full-new.ensures
-    (written.write_full.ensures.image ∙ ap (λ (plan : List Unit4). run plan z.image.now) (take_all 1 mark_full_plan (omega (arith, length-mark_full_plan)))) in
+    (c.write_full.ensures.image ∙ ap (λ (plan : List Unit4). run plan z.image.now) (take_all 1 mark_full_plan (omega (arith, length-mark_full_plan)))) in
     record { answer = both.0; image = both.1 }

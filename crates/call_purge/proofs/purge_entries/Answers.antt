@@ -1,6 +1,5 @@
 -- `call_purge::purge_entries` meets its contract: where the index is on the page, the entries of the held span are zeroed.
 use mathlib.Core.Path.{refl}
-use borrow.Author.Rules.{rules}
 use borrow.Author.Tests.{eq-eqb, ne_eqb, lt-ltb, le-ltb}
 use Rattle.flash.specs.Flash.{run}
 use Rattle.call_purge.specs.Purge.{purge, purge_plan, purge_image}
@@ -25,9 +24,7 @@ returns-then-index-ge-ENTRIES_PER_PAGE c =
 pub returns : goal.returns
 unfolding purge purge_image purge_plan
 returns c =
-    let zeroed = c in
-    let on_page = zeroed in
-    rw (eq-eqb _ _ on_page.if-image-ne-SECTOR_SIZE.false, lt-ltb _ 126 on_page.if-index-ge-ENTRIES_PER_PAGE.false, ← zeroed.held_span.ensures) record {
+    rw (eq-eqb _ _ c.if-image-ne-SECTOR_SIZE.false, lt-ltb _ 126 c.if-index-ge-ENTRIES_PER_PAGE.false, ← c.held_span.ensures) record {
       answer = refl;
-      image = zeroed.zero_entries.ensures;
+      image = c.zero_entries.ensures;
     }

@@ -1,22 +1,18 @@
 -- `call_purge::zero_entries` meets its contract: the entries still to come, zeroed in what there is, are all of them zeroed in the image.
 use mathlib.Core.Path.{◌≡◌, sym, ap, ◌∙◌}
-use mathlib.Core.List.{List}
-use Prim.Native.Nat.{ℕ, suc, ◌+◌, ◌-◌, ◌*◌, ◌≤◌}
+use Prim.Native.Nat.{ℕ, suc, ◌+◌, ◌-◌}
 use native.Mathlib.Omega.{arith}
 use borrow.Author.Rules.{rules}
-use lib.ListN.{length, replicate}
-use Rattle.flash.specs.Flash.{Unit4, units, run}
-use Rattle.sector.specs.Layout.{entry_size, entry_address, sector_size}
+use Rattle.flash.specs.Flash.{units, run}
 use Rattle.call_purge.proofs.Laws.{run_zeros}
 use Rattle.call_purge.proofs.zero_entries.Invariants.{zeros}
 use Rattle.call_purge.proofs.zero_entries.Goals as goal
 
 pub loop-i-init : goal.loop-i-init
 loop-i-init c =
-    let start = c in
-    let args = start.args in
+    let args = c.args in
     let all : args.index + args.span - args.index ≡ args.span = omega arith in (
-      start.requires.0,
+      c.requires.0,
       omega arith,
       search rules,
       ap (λ (n : ℕ). run (zeros args.index n) args.image.now) all,
@@ -24,17 +20,15 @@ loop-i-init c =
 
 pub loop-i-preserved : goal.loop-i-preserved
 loop-i-preserved c =
-    let zeroed = c in
-    let at = zeroed in
-    let args = at.args in
+    let args = c.args in
     let end : ℕ = args.index + args.span in
-    let one : end - at.loop-i.i ≡ suc (end - (at.loop-i.i + 1)) = omega arith in (
+    let one : end - c.loop-i.i ≡ suc (end - (c.loop-i.i + 1)) = omega arith in (
       omega arith,
       omega arith,
       search rules,
-      run_zeros at.loop-i.i (end - (at.loop-i.i + 1)) at.loop-i.image zeroed.zero_entry.ensures
-          ∙ ap (λ (n : ℕ). run (zeros at.loop-i.i n) at.loop-i.image) (sym one)
-          ∙ at.loop-i.invariant.3,
+      run_zeros c.loop-i.i (end - (c.loop-i.i + 1)) c.loop-i.image c.zero_entry.ensures
+          ∙ ap (λ (n : ℕ). run (zeros c.loop-i.i n) c.loop-i.image) (sym one)
+          ∙ c.loop-i.invariant.3,
     )
 
 pub returns : goal.returns

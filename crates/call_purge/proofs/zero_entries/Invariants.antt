@@ -1,13 +1,10 @@
 -- `call_purge::zero_entries` meets its contract: the entries still to come, zeroed in what there is, are all of them zeroed in the image.
-use mathlib.Core.Path.{◌≡◌, sym, ap, ◌∙◌}
+use mathlib.Core.Path.{◌≡◌}
 use mathlib.Core.List.{List}
-use Prim.Native.Nat.{ℕ, suc, ◌+◌, ◌-◌, ◌*◌, ◌≤◌}
-use native.Mathlib.Omega.{arith}
-use borrow.Author.Rules.{rules}
+use Prim.Native.Nat.{ℕ, ◌+◌, ◌-◌, ◌*◌, ◌≤◌}
 use lib.ListN.{length, replicate}
 use Rattle.flash.specs.Flash.{Unit4, units, run}
 use Rattle.sector.specs.Layout.{entry_size, entry_address, sector_size}
-use Rattle.call_purge.proofs.Laws.{run_zeros}
 use Rattle.call_purge.proofs.zero_entries.Given as goal
 
 -- the units that zero n entries
@@ -15,6 +12,6 @@ abbrev pub zeros : ℕ → ℕ → List Unit4
 zeros i n = units (entry_address i) (replicate (entry_size * n) 0)
 
 abbrev pub invariant-loop-i : goal.invariant-loop-i
-invariant-loop-i l = 
+invariant-loop-i l =
     (length l.image ≡ sector_size) × (l.i ≤ l.i-end) × (l.i-end ≡ l.index + l.span)
     × (run (zeros l.i (l.i-end - l.i)) l.image ≡ run (zeros l.index l.span) l.initial.image)

@@ -6,13 +6,11 @@ use lib.ListN.{replicate}
 use Rattle.flash.specs.Flash.{Unit4, units, run}
 use Rattle.sector.specs.Layout.{entry_size}
 use Rattle.call_purge.proofs.Laws.{take_zeros}
-use borrow.Author.Rules.{rules}
 use Rattle.call_purge.proofs.zero_entry.Goals as goal
 
 pub returns : goal.returns
 returns c =
-    let written = c in
-    let z = written.args in
-    written.write_aligned.ensures.image
-    ∙ ap (λ (plan : List Unit4). run plan z.image.now) (take_zeros written.entry_address.result)
-    ∙ ap (λ (address : ℕ). run (units address (replicate entry_size 0)) z.image.now) written.entry_address.ensures
+    let z = c.args in
+    c.write_aligned.ensures.image
+    ∙ ap (λ (plan : List Unit4). run plan z.image.now) (take_zeros c.entry_address.result)
+    ∙ ap (λ (address : ℕ). run (units address (replicate entry_size 0)) z.image.now) c.entry_address.ensures

@@ -2,8 +2,7 @@
 use mathlib.Core.Path.{refl, sym, ap, ◌∙◌}
 use mathlib.Core.Bool.{Bool}
 use mathlib.Core.List.{List}
-use borrow.Author.Rules.{rules}
-use borrow.Author.Tests.{eq-eqb, ne_eqb, not-true, not-false}
+use borrow.Author.Tests.{eq-eqb, ne_eqb}
 use Rattle.flash.specs.Flash.{run}
 use Rattle.call_purge_namespace.specs.PurgeNamespace.{zero_units, purge_namespace_plan, purge_namespace, purge_namespace_image}
 use Rattle.call_purge_namespace.proofs.purge_erased_for_namespace.Goals as goal
@@ -19,8 +18,7 @@ returns-then-image-ne-SECTOR_SIZE c =
 pub returns-then-not-fit_to_use : goal.returns-then-not-fit_to_use
 unfolding purge_namespace purge_namespace_image
 returns-then-not-fit_to_use c =
-    let called = c in
-    rw (eq-eqb _ _ called.if-image-ne-SECTOR_SIZE.false, sym called.fit_to_use.ensures ∙ c.if-not-fit_to_use.true) record {
+    rw (eq-eqb _ _ c.if-image-ne-SECTOR_SIZE.false, sym c.fit_to_use.ensures ∙ c.if-not-fit_to_use.true) record {
       answer = refl;
       image = refl;
     }
@@ -28,13 +26,9 @@ returns-then-not-fit_to_use c =
 pub returns : goal.returns
 unfolding purge_namespace purge_namespace_image purge_namespace_plan
 returns c =
-    let zeroed = c in
-    let walked = zeroed in
-    let fit = walked in
-    let called = fit in
-    let image = called.args.image.now in
-    rw (eq-eqb _ _ called.if-image-ne-SECTOR_SIZE.false, sym called.fit_to_use.ensures ∙ fit.if-not-fit_to_use.false)
+    let image = c.args.image.now in
+    rw (eq-eqb _ _ c.if-image-ne-SECTOR_SIZE.false, sym c.fit_to_use.ensures ∙ c.if-not-fit_to_use.false)
     record {
       answer = refl;
-      image = zeroed.zero_marked.ensures ∙ ap (λ (marks : List Bool). run (zero_units 0 marks) image) walked.to_zero-marks.ensures;
+      image = c.zero_marked.ensures ∙ ap (λ (marks : List Bool). run (zero_units 0 marks) image) c.to_zero-marks.ensures;
     }

@@ -1,7 +1,5 @@
 -- `call_purge_namespace::step_over` meets its contract: where the entry loads the span decides, and else nothing is passed.
 use mathlib.Core.Path.{refl, sym, ◌∙◌}
-use borrow.Author.Rules.{rules}
-use borrow.Author.Tests.{not-true, not-false}
 use Rattle.call_purge_namespace.proofs.step_over.Goals as goal
 
 pub returns-then-not-loads : goal.returns-then-not-loads
@@ -10,5 +8,4 @@ returns-then-not-loads c =
 
 pub returns : goal.returns
 returns c =
-    let loaded = c in
-    rw (sym loaded.loads.ensures ∙ c.if-not-loads.false) (refl, c.remaining.ensures)
+    rw (sym c.loads.ensures ∙ c.if-not-loads.false) (refl, c.remaining.ensures)

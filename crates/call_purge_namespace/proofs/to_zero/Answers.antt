@@ -2,11 +2,9 @@
 use mathlib.Core.Path.{◌≡◌, sym, ap, ap₂, ◌∙◌}
 use mathlib.Core.Bool.{Bool, false}
 use mathlib.Core.List.{List, ◌∷◌, ◌++◌, append-nil}
-use mathlib.Core.Logic.{⊎_elim}
-use Prim.Native.Nat.{ℕ, ◌+◌, ◌-◌, ◌≤◌}
+use Prim.Native.Nat.{ℕ, ◌+◌, ◌-◌}
 use native.Mathlib.Omega.{arith}
-use borrow.Author.Rules.{rules}
-use lib.ListN.{length, take, drop, length-set}
+use lib.ListN.{drop, length-set}
 use lib.Seq.{take_all}
 use Rattle.sector.specs.Layout.{entries_of}
 use Rattle.sector.specs.Map.{states_of}
@@ -25,16 +23,16 @@ loop-i-preserved c =
     let turn : rest step i ≡ c.if-step-gt0.step.zeroed ∷ rest c.if-step-gt0.step (i + 1) = let args = c.args in
     let image = args.image.now in
     elim c.if-step-gt0.branch [
-      then-step-gt0 w ↦
-        to_zero-passed args.namespace args.map image i (omega arith) (omega arith) step.behind step.zeroed w.if-step-gt0.true
-        ∙ ap (λ (next : Step). next.zeroed ∷ rest next (i + 1)) (sym w.step-is)
-    | else-step-gt0 w ↦
-        let none : step.behind ≡ 0 = omega (arith, w.if-step-gt0.false) in
-        ap (λ (k : ℕ). to_zero args.namespace k step.zeroed (drop i (states_of args.map)) (drop i (entries_of image))) none
-        ∙ to_zero_header args.namespace args.map image i (omega arith) (omega arith) step.zeroed
-        (w.step_at-step.ensures.0 ∙ ap₂ (purged args.namespace) w.state_at.ensures w.entry_at.ensures)
-        (w.step_at-step.ensures.1 ∙ ap₂ passed w.state_at.ensures w.entry_at.ensures)
-        ∙ ap (λ (next : Step). next.zeroed ∷ rest next (i + 1)) (sym w.step-is)
+      | then-step-gt0 w ↦
+          to_zero-passed args.namespace args.map image i (omega arith) (omega arith) step.behind step.zeroed w.if-step-gt0.true
+          ∙ ap (λ (next : Step). next.zeroed ∷ rest next (i + 1)) (sym w.step-is)
+      | else-step-gt0 w ↦
+          let none : step.behind ≡ 0 = omega (arith, w.if-step-gt0.false) in
+          ap (λ (k : ℕ). to_zero args.namespace k step.zeroed (drop i (states_of args.map)) (drop i (entries_of image))) none
+          ∙ to_zero_header args.namespace args.map image i (omega arith) (omega arith) step.zeroed
+          (w.step_at-step.ensures.0 ∙ ap₂ (purged args.namespace) w.state_at.ensures w.entry_at.ensures)
+          (w.step_at-step.ensures.1 ∙ ap₂ passed w.state_at.ensures w.entry_at.ensures)
+          ∙ ap (λ (next : Step). next.zeroed ∷ rest next (i + 1)) (sym w.step-is)
     ] in
     let at = c.loop-i in
     (simp length-set at.invariant.0, omega arith, marks_next at.marks at.i c.if-step-gt0.step.zeroed _ (omega arith) at.invariant.2 turn)

@@ -1,18 +1,13 @@
 -- `call_purge_namespace::to_zero` meets its contract: the marks of the entries passed, and those of the walk from i on, are those of the whole walk.
-use mathlib.Core.Path.{◌≡◌, sym, ap, ap₂, ◌∙◌}
+use mathlib.Core.Path.{◌≡◌}
 use mathlib.Core.Bool.{Bool, false}
-use mathlib.Core.List.{List, ◌∷◌, ◌++◌, append-nil}
-use mathlib.Core.Logic.{⊎_elim}
+use mathlib.Core.List.{List, ◌++◌}
 use Prim.Native.Nat.{ℕ, ◌+◌, ◌-◌, ◌≤◌}
-use native.Mathlib.Omega.{arith}
-use borrow.Author.Rules.{rules}
-use lib.ListN.{length, take, drop, length-set}
-use lib.Seq.{take_all}
+use lib.ListN.{length, take, drop}
 use Rattle.sector.specs.Layout.{entries_of}
 use Rattle.sector.specs.Map.{states_of}
-use Rattle.call_purge_namespace.specs.PurgeNamespace.{purged, passed, to_zero}
+use Rattle.call_purge_namespace.specs.PurgeNamespace.{to_zero}
 use Rattle.call_purge_namespace.specs.declared.Step.{Step}
-use Rattle.call_purge_namespace.proofs.Laws.{to_zero-passed, to_zero_header, to_zero_past, marks_next}
 use Rattle.call_purge_namespace.proofs.to_zero.Given as goal
 
 -- the walk from an entry on
@@ -20,6 +15,6 @@ abbrev pub walk : List ℕ → List ℕ → ℕ → Step → ℕ → List Bool
 walk image map namespace step i = to_zero namespace step.behind step.zeroed (drop i (states_of map)) (drop i (entries_of image))
 
 abbrev pub invariant-loop-i : goal.invariant-loop-i
-invariant-loop-i l = 
+invariant-loop-i l =
     (length l.marks ≡ 126) × (l.i ≤ 126)
     × (take l.i l.marks ++ walk l.image l.map l.namespace l.step l.i ≡ to_zero l.namespace 0 false (states_of l.map) (entries_of l.image))

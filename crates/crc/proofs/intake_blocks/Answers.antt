@@ -15,29 +15,23 @@ loop-at-init c =
 
 pub loop-at-preserved : goal.loop-at-preserved
 loop-at-preserved c =
-    let c4 = c in
-    let c3 = c4 in
-    let c2 = c3 in
-    let here = c2 in
-    let known = here in
-    let blocks = known.args.blocks.now in
-    let at = here.loop-at.at in
-    let crc = here.loop-at.crc in
+    let blocks = c.args.blocks.now in
+    let at = c.loop-at.at in
+    let crc = c.loop-at.crc in
     let fits : at + 8 ≤ length blocks = omega arith in (
       omega arith,
       fits,
       ap (λ (r : ℕ). register r (drop (at + 8) blocks))
           (ap₂ bit_xor
-          (c4.shift_64.ensures ∙ ap (λ (word : ℕ). shifts 64 (bit_xor crc word)) c2.load_word.ensures)
-          (c.shift_32.ensures ∙ ap (shifts 32) c3.load_word-high.ensures))
-          ∙ register_block crc blocks at (λ i. (known.type_inv.blocks i).fits) fits
-          ∙ here.loop-at.invariant.2,
+          (c.shift_64.ensures ∙ ap (λ (word : ℕ). shifts 64 (bit_xor crc word)) c.load_word.ensures)
+          (c.shift_32.ensures ∙ ap (shifts 32) c.load_word-high.ensures))
+          ∙ register_block crc blocks at (λ i. (c.type_inv.blocks i).fits) fits
+          ∙ c.loop-at.invariant.2,
     )
 
 pub returns : goal.returns
 unfolding register
 returns c =
-    let here = c in
-    let blocks = here.args.blocks.now in
-    let past : length blocks ≤ here.loop-at.at = omega arith in
-    sym (ap (register here.loop-at.crc) (drop_of_length-le blocks past)) ∙ here.loop-at.invariant.2
+    let blocks = c.args.blocks.now in
+    let past : length blocks ≤ c.loop-at.at = omega arith in
+    sym (ap (register c.loop-at.crc) (drop_of_length-le blocks past)) ∙ c.loop-at.invariant.2

@@ -16,20 +16,18 @@ loop-at-init c =
 pub loop-at-preserved : goal.loop-at-preserved
 unfolding register
 loop-at-preserved c =
-    let here = c in
-    let bytes = here.args.bytes.now in
-    let at = here.loop-at.at in
+    let bytes = c.args.bytes.now in
+    let at = c.loop-at.at in
     let more : at < length bytes = omega arith in (
       omega arith,
       ap₂ register c.intake_byte-crc.ensures (ap (λ (n : ℕ). drop n bytes) (add-one at))
-          ∙ sym (ap (register here.loop-at.crc) (drop-cons bytes at 0 more))
-          ∙ here.loop-at.invariant.1,
+          ∙ sym (ap (register c.loop-at.crc) (drop-cons bytes at 0 more))
+          ∙ c.loop-at.invariant.1,
     )
 
 pub returns : goal.returns
 unfolding register
 returns c =
-    let here = c in
-    let bytes = here.args.bytes.now in
-    let past : length bytes ≤ here.loop-at.at = omega arith in
-    sym (ap (register here.loop-at.crc) (drop_of_length-le bytes past)) ∙ here.loop-at.invariant.1
+    let bytes = c.args.bytes.now in
+    let past : length bytes ≤ c.loop-at.at = omega arith in
+    sym (ap (register c.loop-at.crc) (drop_of_length-le bytes past)) ∙ c.loop-at.invariant.1

@@ -10,14 +10,11 @@ use Rattle.crc.proofs.intake_tail.Goals as goal
 
 pub returns : goal.returns
 returns c =
-    let c2 = c in
-    let c1 = c2 in
-    let known = c1 in
-    let args = known.args in
+    let args = c.args in
     let tail = args.tail.now in
     let long : 4 ≤ length tail = omega arith in
     c.intake_bytes-2.ensures
     ∙ ap₂ register
-    (c2.shift_32-after_word.ensures ∙ ap (λ (word : ℕ). shifts 32 (bit_xor args.start word)) c1.load_word.ensures)
+    (c.shift_32-after_word.ensures ∙ ap (λ (word : ℕ). shifts 32 (bit_xor args.start word)) c.load_word.ensures)
     (take_rest 4 tail)
-    ∙ register_drop 4 args.start tail 0 (λ i. (known.type_inv.tail i).fits) long
+    ∙ register_drop 4 args.start tail 0 (λ i. (c.type_inv.tail i).fits) long

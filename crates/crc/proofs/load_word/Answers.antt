@@ -6,9 +6,8 @@ use Rattle.crc.proofs.load_word.Goals as goal
 
 pub returns : goal.returns
 returns c =
-    let start = c in
-    let bytes = start.args.bytes.now in
-    let at = start.args.at in
+    let bytes = c.args.bytes.now in
+    let at = c.args.at in
     omega (
       arith,
       number_cons bytes at (at + 1) 3 (omega arith) (omega arith),

@@ -28,14 +28,11 @@ sum_spread eight four two one v h = ap (sum_of eight four two one) (sym (zero-ad
 
 pub returns : goal.returns
 returns c =
-    let c3 = c in
-    let c2 = c3 in
-    let c1 = c2 in
-    let args = c1.args in
+    let args = c.args in
     let v = args.value in
     c.with_bit-3.ensures
     ∙ ap (λ (sum : ℕ). with_bit sum (v / 8 % 2) args.eight)
-    (c3.with_bit-2.ensures
+    (c.with_bit-2.ensures
     ∙ ap (λ (sum : ℕ). with_bit sum (v / 4 % 2) args.four)
-    (c2.with_bit-low.ensures ∙ ap (λ (sum : ℕ). with_bit sum (v / 2 % 2) args.two) c1.with_bit.ensures))
+    (c.with_bit-low.ensures ∙ ap (λ (sum : ℕ). with_bit sum (v / 2 % 2) args.two) c.with_bit.ensures))
     ∙ sum_spread args.eight args.four args.two args.one v (omega arith)

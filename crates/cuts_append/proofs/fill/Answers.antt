@@ -1,6 +1,6 @@
 -- `fill` meets its contract: the bytes passed are the first of the curve.
 use mathlib.Core.Path.{◌≡◌, refl, sym, ap, ◌∙◌}
-use Prim.Native.Nat.{◌%◌, ◌<◌}
+use Prim.Native.Nat.{◌-◌, ◌%◌, ◌<◌}
 use lib.ListN.{length, length-set}
 use lib.Seq.{take_all, take-suc-set}
 use native.Mathlib.Omega.{arith}

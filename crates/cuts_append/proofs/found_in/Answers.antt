@@ -4,22 +4,17 @@ use Rattle.cuts_append.proofs.found_in.Goals as goal
 
 pub returns-then-same_sector : goal.returns-then-same_sector
 returns-then-same_sector c =
-    let first = c in
-    rw (sym first.is_done.ensures ∙ first.if-not-is_done.false, sym c.same_sector.ensures ∙ c.if-same_sector.true)
+    rw (sym c.is_done.ensures ∙ c.if-not-is_done.false, sym c.same_sector.ensures ∙ c.if-same_sector.true)
 
 pub returns-then-same_sector-2 : goal.returns-then-same_sector-2
 returns-then-same_sector-2 c =
-    let second = c in
-    let first = second in
-    let done = sym first.is_done.ensures ∙ first.if-not-is_done.false in
-    rw (done, sym second.same_sector.ensures ∙ second.if-same_sector.false, sym c.same_sector-2.ensures ∙ c.if-same_sector-2.true)
+    let done = sym c.is_done.ensures ∙ c.if-not-is_done.false in
+    rw (done, sym c.same_sector.ensures ∙ c.if-same_sector.false, sym c.same_sector-2.ensures ∙ c.if-same_sector-2.true)
 
 pub returns : goal.returns
 returns c =
-    let second = c in
-    let first = second in
-    let done = sym first.is_done.ensures ∙ first.if-not-is_done.false in
-    rw (done, sym second.same_sector.ensures ∙ second.if-same_sector.false, sym c.same_sector-2.ensures ∙ c.if-same_sector-2.false)
+    let done = sym c.is_done.ensures ∙ c.if-not-is_done.false in
+    rw (done, sym c.same_sector.ensures ∙ c.if-same_sector.false, sym c.same_sector-2.ensures ∙ c.if-same_sector-2.false)
 
 pub returns-then-not-is_done : goal.returns-then-not-is_done
 returns-then-not-is_done c =

@@ -4,6 +4,7 @@ use mathlib.Core.Bool.{Bool, true, false}
 use Prim.Native.Nat.{ℕ, ◌+◌, ◌-◌}
 use native.Mathlib.Omega.{arith}
 use borrow.Author.Rules.{rules}
+use Rattle.cuts_append.specs.Cutting.{same_found}
 use Rattle.cuts_append.proofs.Laws.{same_found_lem, same_of, alike_one, alike_more, first_pass_lem, first_here, first_end}
 use Rattle.cuts_append.proofs.last_alike.Invariants.{alike}
 use Rattle.cuts_append.proofs.last_alike.Goals as goal

@@ -1,6 +1,6 @@
 -- `same_list` meets its contract: the places passed are the same, so those after them decide.
 use mathlib.Core.Path.{◌≡◌}
-use Prim.Native.Nat.{◌≤◌}
+use Prim.Native.Nat.{◌-◌, ◌≤◌}
 use lib.ListN.{drop}
 use Rattle.cuts_append.specs.Cutting.{same_list}
 use Rattle.cuts_append.proofs.same_list.Given as goal

@@ -16,8 +16,7 @@ returns-then-digit-most c =
     let decided : let l = c.loop-i in let z = c.args in let next = l.value * z.base + c.digit_of-digit.result in cond (ltb c.digit_of-digit.result z.base && leb next z.most) (digits_from z.base z.most next (drop (l.i + 1) z.text.now)) no_number ≡ digits_of z.base z.most z.text.now = let l = c.loop-i in
     let z = c.args in
     sym (digits_step z.base z.most l.value z.text.now l.i c.digit_of-digit.result (omega arith) c.digit_of-digit.ensures) ∙ l.invariant.2 in
-    let at = c in
-    let over = digit_past at.args.base at.loop-i.value c.if-digit-most.true in
+    let over = digit_past c.args.base c.loop-i.value c.if-digit-most.true in
     c.no_number-then-digit-most.ensures
     ∙ rw (lt-ltb _ _ c.if-digit-base.false, lt-leb _ _ over) at decided
 

@@ -11,31 +11,24 @@ use Rattle.cuts_request.proofs.request_of.Goals as goal
 pub returns-then-not-named : goal.returns-then-not-named
 returns-then-not-named c =
     let space_is : number_in 0xFF c.args.namespace.now ≡ c.number_of-space.result = sym c.number_of-space.ensures in
-    let typed = c in
-    let first = typed in
-    rw (space_is, first.if-not-space.false, ← typed.type_of-named.ensures, c.if-not-named.true) c.refused-then-not-named.ensures
+    rw (space_is, c.if-not-space.false, ← c.type_of-named.ensures, c.if-not-named.true) c.refused-then-not-named.ensures
 
 pub returns-then-not-is_key : goal.returns-then-not-is_key
 returns-then-not-is_key c =
     let space_is : number_in 0xFF c.args.namespace.now ≡ c.number_of-space.result = sym c.number_of-space.ensures in
-    let short = c in
-    let second = short in
-    let typed = second in
-    let first = typed in
     rw (
       space_is,
-      first.if-not-space.false,
-      ← typed.type_of-named.ensures,
-      second.if-not-named.false,
-      ← short.is_key.ensures,
+      c.if-not-space.false,
+      ← c.type_of-named.ensures,
+      c.if-not-named.false,
+      ← c.is_key.ensures,
       c.if-not-is_key.true,
     ) c.refused-then-not-is_key.ensures
 
 pub overflow_cast-byte : goal.overflow_cast-byte
 overflow_cast-byte c =
-    let typed = c in
-    let small = type_of_most typed.args.kind.now in
-    let same = ap (λ (kind : Number). kind.value) typed.type_of-named.ensures in
+    let small = type_of_most c.args.kind.now in
+    let same = ap (λ (kind : Number). kind.value) c.type_of-named.ensures in
     omega arith
 
 pub returns-then-not-read : goal.returns-then-not-read
@@ -59,11 +52,8 @@ returns-then-not-read c =
 
 pub overflow_cast-request : goal.overflow_cast-request
 overflow_cast-request c =
-    let fourth = c in
-    let second = fourth in
-    let space = second in
-    let small = number_in_most 0xFF space.args.namespace.now in
-    let same = ap (λ (n : Number). n.value) space.number_of-space.ensures in
+    let small = number_in_most 0xFF c.args.namespace.now in
+    let same = ap (λ (n : Number). n.value) c.number_of-space.ensures in
     omega arith
 
 pub returns : goal.returns

@@ -13,30 +13,17 @@ asked text name byte e f = e ∙ ap (λ (found : Number). or_named found text na
 
 pub returns : goal.returns
 returns c =
-    let index = c in
-    let chunk = index in
-    let blob = chunk in
-    let sized = blob in
-    let i64 = sized in
-    let u64 = i64 in
-    let i32 = u64 in
-    let u32 = i32 in
-    let i16 = u32 in
-    let u16 = i16 in
-    let i8 = u16 in
-    let u8 = i8 in
-    let number = u8 in
     asked _ _ _ c.or_named.ensures
-    (asked _ _ _ index.or_named-found-12.ensures
-    (asked _ _ _ chunk.or_named-found-11.ensures
-    (asked _ _ _ blob.or_named-found-10.ensures
-    (asked _ _ _ sized.or_named-found-9.ensures
-    (asked _ _ _ i64.or_named-found-8.ensures
-    (asked _ _ _ u64.or_named-found-7.ensures
-    (asked _ _ _ i32.or_named-found-6.ensures
-    (asked _ _ _ u32.or_named-found-5.ensures
-    (asked _ _ _ i16.or_named-found-4.ensures
-    (asked _ _ _ u16.or_named-found-3.ensures
-    (asked _ _ _ i8.or_named-found-2.ensures
-    (asked _ _ _ u8.or_named-found.ensures
-    number.number_of-found.ensures))))))))))))
+    (asked _ _ _ c.or_named-found-12.ensures
+    (asked _ _ _ c.or_named-found-11.ensures
+    (asked _ _ _ c.or_named-found-10.ensures
+    (asked _ _ _ c.or_named-found-9.ensures
+    (asked _ _ _ c.or_named-found-8.ensures
+    (asked _ _ _ c.or_named-found-7.ensures
+    (asked _ _ _ c.or_named-found-6.ensures
+    (asked _ _ _ c.or_named-found-5.ensures
+    (asked _ _ _ c.or_named-found-4.ensures
+    (asked _ _ _ c.or_named-found-3.ensures
+    (asked _ _ _ c.or_named-found-2.ensures
+    (asked _ _ _ c.or_named-found.ensures
+    c.number_of-found.ensures))))))))))))

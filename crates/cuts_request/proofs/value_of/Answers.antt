@@ -3,8 +3,7 @@ use Rattle.cuts_request.proofs.value_of.Goals as goal
 
 pub returns : goal.returns
 returns c =
-    let width = c in
-    rw (← width.value_width.ensures, ← c.most_of-most.ensures, ← width.kind_of-decided.ensures, width.if-decided.false)
+    rw (← c.value_width.ensures, ← c.most_of-most.ensures, ← c.kind_of-decided.ensures, c.if-decided.false)
     c.number_of.ensures
 
 pub returns-then-decided : goal.returns-then-decided

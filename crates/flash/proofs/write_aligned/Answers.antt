@@ -29,8 +29,7 @@ program_bytes-requires c =
 
 pub returns : goal.returns
 returns c =
-    let first = c in
-    let args = first.args in
+    let args = c.args in
     let b = bytes_of_get_d args.image.now (λ i h. (c.slice_known-1.given i).fits) in record {
       total = c.unit_count.ensures ∙ length-units_at 0 args.address args.bytes.now;
       image = c.program_bytes.ensures

@@ -1,6 +1,5 @@
 -- `blank` meets its contract: the answer beside the Uninitialized record.
 use mathlib.Core.Path.{ap}
-use borrow.Author.Rules.{rules}
 use Rattle.page.specs.Writing.{answered}
 use Rattle.opening.proofs.blank.Goals as goal
 

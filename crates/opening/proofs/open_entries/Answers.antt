@@ -1,6 +1,5 @@
 -- `open_entries` meets its contract: its test is whether the stop is below the plan's length.
-use mathlib.Core.Path.{◌≡◌, ap, ◌∙◌}
-use borrow.Author.Rules.{rules}
+use mathlib.Core.Path.{ap}
 use borrow.Author.Tests.{lt-ltb, le-ltb}
 use Rattle.page.specs.Writing.{answered}
 use Rattle.sector.specs.declared.Answer.TheVariants.{Done}

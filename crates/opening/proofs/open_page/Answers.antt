@@ -1,15 +1,13 @@
 -- `open_page` meets its contract: no opening has more units than the stop.
 use mathlib.Core.Path.{◌∙◌}
 use native.Mathlib.Omega.{arith}
-use borrow.Author.Rules.{rules}
 use Rattle.opening.proofs.Units.{opening_plain}
 use Rattle.opening.proofs.open_page.Goals as goal
 
 pub returns : goal.returns
 returns c =
-    let done = c in
-    let plain = opening_plain done.args.image.now 16 (omega arith) in
+    let plain = opening_plain c.args.image.now 16 (omega arith) in
     record {
-      answer = done.open_stopped.ensures.answer ∙ plain.0;
-      image = done.open_stopped.ensures.image ∙ plain.1;
+      answer = c.open_stopped.ensures.answer ∙ plain.0;
+      image = c.open_stopped.ensures.image ∙ plain.1;
     }

@@ -1,7 +1,6 @@
 -- `open_stopped` meets its contract: the length is tested first, then each verdict on the header answers as `answer_for` and programs as `plan_for`.
 use mathlib.Core.Path.{◌≡◌, refl, sym, ◌∙◌}
 use mathlib.Core.List.{List, []}
-use borrow.Author.Rules.{rules}
 use borrow.Author.Tests.{eq-eqb, ne_eqb, le-ltb}
 use native.Mathlib.Omega.{arith}
 use Prim.Native.Nat.{ℕ}

@@ -2,8 +2,7 @@
 use mathlib.Core.Path.{◌≡◌, refl, sym, ap, ◌∙◌}
 use mathlib.Core.Bool.{true, false, not, cond}
 use lib.Dec.{eqb}
-use borrow.Author.Rules.{rules}
-use borrow.Author.Tests.{eq-eqb, ne_eqb, not-true, not-false}
+use borrow.Author.Tests.{eq-eqb, ne_eqb}
 use Rattle.sector.specs.declared.PageState.{PageState}
 use Rattle.sector.specs.declared.PageState.TheVariants.{Uninitialized, Active, Full, Freeing, Corrupt, Invalid}
 use Rattle.sector.specs.Header.{state_of_word, header_crc, is_uninitialized, is_in_use}
@@ -24,17 +23,15 @@ unfolding header_verdict_of
 returns-then-all_ones c =
     let state : state_of_word (state_word c.args.image.now) ≡ c.state_of_word-state.result = sym (c.state_of_word-state.ensures ∙ ap state_of_word c.number_at.ensures) in
     let uninitialized : is_uninitialized (state_of_word (state_word c.args.image.now)) ≡ c.is_uninitialized.result = ap is_uninitialized state ∙ sym c.is_uninitialized.ensures in
-    let blank = c in
-    rw (uninitialized ∙ blank.if-is_uninitialized.true, sym c.all_ones.ensures ∙ c.if-all_ones.true)
+    rw (uninitialized ∙ c.if-is_uninitialized.true, sym c.all_ones.ensures ∙ c.if-all_ones.true)
 
 pub returns-then-is_uninitialized : goal.returns-then-is_uninitialized
 unfolding header_verdict_of
 returns-then-is_uninitialized c =
     let state : state_of_word (state_word c.args.image.now) ≡ c.state_of_word-state.result = sym (c.state_of_word-state.ensures ∙ ap state_of_word c.number_at.ensures) in
     let uninitialized : is_uninitialized (state_of_word (state_word c.args.image.now)) ≡ c.is_uninitialized.result = ap is_uninitialized state ∙ sym c.is_uninitialized.ensures in
-    let blank = c in
-    let image = blank.args.image.now in
-    let erased = uninitialized ∙ blank.if-is_uninitialized.true in
+    let image = c.args.image.now in
+    let erased = uninitialized ∙ c.if-is_uninitialized.true in
     rw (
       erased,
       sym c.all_ones.ensures ∙ c.if-all_ones.false,
@@ -47,8 +44,7 @@ returns-then-not-is_in_use c =
     let state : state_of_word (state_word c.args.image.now) ≡ c.state_of_word-state.result = sym (c.state_of_word-state.ensures ∙ ap state_of_word c.number_at.ensures) in
     let uninitialized : is_uninitialized (state_of_word (state_word c.args.image.now)) ≡ c.is_uninitialized.result = ap is_uninitialized state ∙ sym c.is_uninitialized.ensures in
     let opens : is_in_use (state_of_word (state_word c.args.image.now)) ≡ c.is_in_use.result = ap is_in_use state ∙ sym c.is_in_use.ensures in
-    let begun = c in
-    rw (uninitialized ∙ begun.if-is_uninitialized.false, opens ∙ c.if-not-is_in_use.true)
+    rw (uninitialized ∙ c.if-is_uninitialized.false, opens ∙ c.if-not-is_in_use.true)
 
 pub returns-then-image : goal.returns-then-image
 unfolding header_verdict_of
@@ -56,9 +52,8 @@ returns-then-image c =
     let state : state_of_word (state_word c.args.image.now) ≡ c.state_of_word-state.result = sym (c.state_of_word-state.ensures ∙ ap state_of_word c.number_at.ensures) in
     let uninitialized : is_uninitialized (state_of_word (state_word c.args.image.now)) ≡ c.is_uninitialized.result = ap is_uninitialized state ∙ sym c.is_uninitialized.ensures in
     let opens : is_in_use (state_of_word (state_word c.args.image.now)) ≡ c.is_in_use.result = ap is_in_use state ∙ sym c.is_in_use.ensures in
-    let in_use_lem : let image = c.args.image.now in header_verdict_of image ≡ cond (not (eqb (version_of image) 0xFE)) WrongVersion (cond (not (eqb (header_crc image) (stored_header_crc image))) WrongHeaderCrc Opens) = let begun = c in
-    rw (
-      uninitialized ∙ begun.if-is_uninitialized.false,
+    let in_use_lem : let image = c.args.image.now in header_verdict_of image ≡ cond (not (eqb (version_of image) 0xFE)) WrongVersion (cond (not (eqb (header_crc image) (stored_header_crc image))) WrongHeaderCrc Opens) = rw (
+      uninitialized ∙ c.if-is_uninitialized.false,
       opens ∙ c.if-not-is_in_use.false,
     ) in
     rw (in_use_lem, ne_eqb _ 0xFE c.if-image.true)
@@ -69,17 +64,14 @@ returns-then-crc-number_at c =
     let state : state_of_word (state_word c.args.image.now) ≡ c.state_of_word-state.result = sym (c.state_of_word-state.ensures ∙ ap state_of_word c.number_at.ensures) in
     let uninitialized : is_uninitialized (state_of_word (state_word c.args.image.now)) ≡ c.is_uninitialized.result = ap is_uninitialized state ∙ sym c.is_uninitialized.ensures in
     let opens : is_in_use (state_of_word (state_word c.args.image.now)) ≡ c.is_in_use.result = ap is_in_use state ∙ sym c.is_in_use.ensures in
-    let in_use_lem : let image = c.args.image.now in header_verdict_of image ≡ cond (not (eqb (version_of image) 0xFE)) WrongVersion (cond (not (eqb (header_crc image) (stored_header_crc image))) WrongHeaderCrc Opens) = let begun = c in
-    rw (
-      uninitialized ∙ begun.if-is_uninitialized.false,
+    let in_use_lem : let image = c.args.image.now in header_verdict_of image ≡ cond (not (eqb (version_of image) 0xFE)) WrongVersion (cond (not (eqb (header_crc image) (stored_header_crc image))) WrongHeaderCrc Opens) = rw (
+      uninitialized ∙ c.if-is_uninitialized.false,
       opens ∙ c.if-not-is_in_use.false,
     ) in
-    let summed = c in
-    let versed = summed in
     rw (
       in_use_lem,
-      eq-eqb _ 0xFE versed.if-image.false,
-      ne_eqb (header_crc _) _ (λ e. c.if-crc-number_at.true (summed.crc_of-crc.ensures ∙ e ∙ sym c.number_at-2.ensures)),
+      eq-eqb _ 0xFE c.if-image.false,
+      ne_eqb (header_crc _) _ (λ e. c.if-crc-number_at.true (c.crc_of-crc.ensures ∙ e ∙ sym c.number_at-2.ensures)),
     )
 
 pub returns : goal.returns
@@ -88,15 +80,12 @@ returns c =
     let state : state_of_word (state_word c.args.image.now) ≡ c.state_of_word-state.result = sym (c.state_of_word-state.ensures ∙ ap state_of_word c.number_at.ensures) in
     let uninitialized : is_uninitialized (state_of_word (state_word c.args.image.now)) ≡ c.is_uninitialized.result = ap is_uninitialized state ∙ sym c.is_uninitialized.ensures in
     let opens : is_in_use (state_of_word (state_word c.args.image.now)) ≡ c.is_in_use.result = ap is_in_use state ∙ sym c.is_in_use.ensures in
-    let in_use_lem : let image = c.args.image.now in header_verdict_of image ≡ cond (not (eqb (version_of image) 0xFE)) WrongVersion (cond (not (eqb (header_crc image) (stored_header_crc image))) WrongHeaderCrc Opens) = let begun = c in
-    rw (
-      uninitialized ∙ begun.if-is_uninitialized.false,
+    let in_use_lem : let image = c.args.image.now in header_verdict_of image ≡ cond (not (eqb (version_of image) 0xFE)) WrongVersion (cond (not (eqb (header_crc image) (stored_header_crc image))) WrongHeaderCrc Opens) = rw (
+      uninitialized ∙ c.if-is_uninitialized.false,
       opens ∙ c.if-not-is_in_use.false,
     ) in
-    let summed = c in
-    let versed = summed in
     rw (
       in_use_lem,
-      eq-eqb _ 0xFE versed.if-image.false,
-      eq-eqb (header_crc _) _ (sym summed.crc_of-crc.ensures ∙ c.if-crc-number_at.false ∙ c.number_at-2.ensures),
+      eq-eqb _ 0xFE c.if-image.false,
+      eq-eqb (header_crc _) _ (sym c.crc_of-crc.ensures ∙ c.if-crc-number_at.false ∙ c.number_at-2.ensures),
     )

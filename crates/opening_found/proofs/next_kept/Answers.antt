@@ -1,15 +1,12 @@
 -- `opening_found::next_kept` meets its contract: the next kept item from the index reached on is the one from the start on.
 use mathlib.Core.Path.{◌≡◌, refl, sym, ◌∙◌}
-use mathlib.Core.Logic.{inl, inr}
 use Prim.Native.Nat.{ℕ, ◌+◌, ◌-◌, ◌<◌}
 use native.Mathlib.Omega.{arith}
-use borrow.Author.Rules.{rules}
 use lib.ListN.{length}
 use Rattle.opening_reading.specs.declared.Verdict.{Verdict}
 use Rattle.opening_reading.specs.declared.Verdict.TheVariants.{NotAnItem, RefusedEntry, RefusedItem, Kept}
 use Rattle.opening_reading.specs.Reading.{steps_over}
 use Rattle.opening_reading.proofs.Steps.{verdict_of, steps_inside}
-use Rattle.opening_found.specs.Found.{next_kept}
 use Rattle.opening_found.proofs.Going.{Passed, no_item, bad_entry, bad_item, next_past, next_here, next_further}
 use Rattle.opening_found.proofs.next_kept.Goals as goal
 
@@ -69,6 +66,4 @@ loop-index-preserved c =
 pub returns : goal.returns
 returns c =
     let long : length c.args.map ≡ 32 = c.well_formed.1.0.1.0.1 in
-    let at = c in
-    let start = at in
-    sym (next_past start.args.image.now start.args.map at.loop-index.index long c.loop-index-test.false) ∙ at.loop-index.invariant
+    sym (next_past c.args.image.now c.args.map c.loop-index.index long c.loop-index-test.false) ∙ c.loop-index.invariant

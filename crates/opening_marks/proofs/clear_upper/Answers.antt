@@ -1,7 +1,5 @@
 -- `opening_marks::clear_upper` meets its contract: the state that opening leaves is asked first, then whether the entry is a refused header.
 use mathlib.Core.Path.{◌≡◌, sym, ap, ◌∙◌}
-use borrow.Author.Rules.{rules}
-use borrow.Author.Tests.{not-true, not-false}
 use Rattle.sector.specs.declared.EntryMapState.{EntryMapState}
 use Rattle.sector.specs.declared.EntryMapState.TheVariants.{Erased}
 use Rattle.sector.specs.Map.{state_at, same_state}
@@ -15,11 +13,9 @@ returns-then-not-is_erased c =
 pub returns-then-head : goal.returns-then-head
 returns-then-head c =
     let erased : let args = c.args in same_state (state_at args.opened args.index) Erased ≡ c.is_erased.result = sym (c.is_erased.ensures ∙ ap (λ (s : EntryMapState). same_state s Erased) c.state_at.ensures) in
-    let tested = c in
-    rw (erased ∙ tested.if-not-is_erased.false, c.if-head.true)
+    rw (erased ∙ c.if-not-is_erased.false, c.if-head.true)
 
 pub returns : goal.returns
 returns c =
     let erased : let args = c.args in same_state (state_at args.opened args.index) Erased ≡ c.is_erased.result = sym (c.is_erased.ensures ∙ ap (λ (s : EntryMapState). same_state s Erased) c.state_at.ensures) in
-    let tested = c in
-    rw (erased ∙ tested.if-not-is_erased.false, c.if-head.false) c.mark_range.ensures
+    rw (erased ∙ c.if-not-is_erased.false, c.if-head.false) c.mark_range.ensures

@@ -1,13 +1,11 @@
 -- `opening_marks::first_pass` meets its contract: up to the index reached the states are those of the first pass, and from there on as they were.
 use mathlib.Core.Path.{◌≡◌}
-use Prim.Native.Nat.{◌-◌, ◌≤◌}
+use Prim.Native.Nat.{◌-◌}
 use native.Mathlib.Omega.{arith}
 use borrow.Author.Rules.{rules}
 use lib.ListN.{length}
-use Rattle.sector.specs.Map.{states_of}
-use Rattle.opening_marks.specs.Marks.{first_pass}
 use Rattle.opening_marks.proofs.Arrays.{bytes_of_array}
-use Rattle.opening_marks.proofs.Passes.{PassedTo, passed_start, first_step, first_end}
+use Rattle.opening_marks.proofs.Passes.{passed_start, first_step, first_end}
 use Rattle.opening_marks.proofs.first_pass.Goals as goal
 
 pub loop-index-init : goal.loop-index-init

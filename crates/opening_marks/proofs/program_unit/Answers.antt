@@ -2,7 +2,6 @@
 use mathlib.Core.Path.{◌≡◌, refl, sym, ◌∙◌}
 use Prim.Native.Nat.{ℕ, ◌+◌, ◌-◌, ◌*◌}
 use native.Mathlib.Omega.{arith}
-use borrow.Author.Rules.{rules}
 use lib.Seq.{take-nil}
 use Rattle.flash.specs.Flash.{Unit4, run}
 use Rattle.opening_marks.proofs.program_unit.Goals as goal
@@ -18,11 +17,9 @@ returns-then-same_unit c =
 
 pub returns : goal.returns
 returns c =
-    let written = c in
-    let tested = written in
-    let start : ℕ = 4 * tested.args.unit in
+    let start : ℕ = 4 * c.args.unit in
     let four : start + 4 - start ≡ 4 = omega arith in
-    rw (sym tested.same_unit.ensures ∙ tested.if-same_unit.false) (record {
-      total = rw four at written.write_aligned.ensures.total;
-      image = rw four at written.write_aligned.ensures.image;
+    rw (sym c.same_unit.ensures ∙ c.if-same_unit.false) (record {
+      total = rw four at c.write_aligned.ensures.total;
+      image = rw four at c.write_aligned.ensures.image;
     })

@@ -1,5 +1,4 @@
 -- `opening_marks::shut_before_tail` meets its contract: what lies before the free tail's start is shut.
-use borrow.Author.Rules.{rules}
 use Rattle.opening_marks.proofs.shut_before_tail.Goals as goal
 
 pub returns : goal.returns

@@ -1,6 +1,5 @@
 -- `opening_marks::shut_entry` meets its contract: a Written entry stays, any other is marked Erased.
 use mathlib.Core.Path.{◌≡◌, refl, sym, ap, ◌∙◌}
-use borrow.Author.Rules.{rules}
 use Rattle.sector.specs.declared.EntryMapState.{EntryMapState}
 use Rattle.sector.specs.declared.EntryMapState.TheVariants.{Empty, Written, Erased, Illegal}
 use Rattle.sector.specs.Map.{state_at, same_state}

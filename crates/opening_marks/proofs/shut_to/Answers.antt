@@ -1,13 +1,13 @@
 -- `opening_marks::shut_to` meets its contract: up to the index reached the states are shut, and from there on as they were.
 use mathlib.Core.Path.{◌≡◌}
-use Prim.Native.Nat.{◌-◌, ◌≤◌}
+use Prim.Native.Nat.{◌-◌}
 use native.Mathlib.Omega.{arith}
 use borrow.Author.Rules.{rules}
 use lib.ListN.{length}
 use Rattle.sector.specs.Map.{states_of}
 use Rattle.opening_marks.specs.Marks.{shut_to}
 use Rattle.opening_marks.proofs.Arrays.{bytes_of_array}
-use Rattle.opening_marks.proofs.Passes.{PassedTo, passed_start, shut_step, shut_end}
+use Rattle.opening_marks.proofs.Passes.{passed_start, shut_step, shut_end}
 use Rattle.opening_marks.proofs.shut_to.Goals as goal
 
 pub loop-index-init : goal.loop-index-init

@@ -3,8 +3,6 @@ use mathlib.Core.Path.{◌≡◌, sym, ◌∙◌}
 use mathlib.Core.Bool.{true, and-true}
 use Prim.Native.Nat.{suc, ◌+◌, ◌-◌, ◌<◌, ◌≤◌}
 use native.Mathlib.Omega.{arith}
-use borrow.Author.Rules.{rules}
-use borrow.Author.Tests.{not-true, not-false}
 use lib.ListN.{length, drop, drop_of_length-le}
 use Rattle.flash.specs.Flash.{all_ones}
 use Rattle.sector.specs.Layout.{entry_at, entries_of}

@@ -5,8 +5,7 @@ use mathlib.Core.List.{[], ◌∷◌}
 use mathlib.Core.Option.{none, some}
 use Prim.Native.Nat.{ℕ, ◌+◌, ◌-◌}
 use native.Mathlib.Omega.{arith}
-use borrow.Author.Rules.{rules}
-use borrow.Author.Tests.{lt-ltb, le-ltb, eq-eqb, ne_eqb, not-true, not-false}
+use borrow.Author.Tests.{lt-ltb, le-ltb, eq-eqb, ne_eqb}
 use lib.ListN.{length, drop}
 use Rattle.flash.specs.Flash.{all_ones}
 use Rattle.sector.specs.declared.Kind.{Kind}
@@ -20,19 +19,16 @@ use Rattle.opening_reading.proofs.written_verdict.Goals as goal
 pub returns-then-all_ones : goal.returns-then-all_ones
 unfolding header_refusal
 returns-then-all_ones c =
-    let read = c in
-    rw (← read.entry_at-entry.ensures, sym c.all_ones.ensures ∙ c.if-all_ones.true)
+    rw (← c.entry_at-entry.ensures, sym c.all_ones.ensures ∙ c.if-all_ones.true)
 
 pub returns-then-not-is_known : goal.returns-then-not-is_known
 unfolding header_refusal
 returns-then-not-is_known c =
     let bytes_there : all_ones c.entry_at-entry.result ≡ false = sym c.all_ones.ensures ∙ c.if-all_ones.false in
-    let tested = c in
-    let bytes = tested in
     rw (
-      ← bytes.entry_at-entry.ensures,
+      ← c.entry_at-entry.ensures,
       bytes_there,
-      sym tested.is_known.ensures ∙ c.if-not-is_known.true,
+      sym c.is_known.ensures ∙ c.if-not-is_known.true,
     )
 
 pub returns-then-not-crc_right : goal.returns-then-not-crc_right
@@ -40,13 +36,11 @@ unfolding header_refusal
 returns-then-not-crc_right c =
     let bytes_there : all_ones c.entry_at-entry.result ≡ false = sym c.all_ones.ensures ∙ c.if-all_ones.false in
     let type_known : known_type c.entry_at-entry.result ≡ true = sym c.is_known.ensures ∙ c.if-not-is_known.false in
-    let tested = c in
-    let typed = tested in
     rw (
-      ← typed.entry_at-entry.ensures,
+      ← c.entry_at-entry.ensures,
       bytes_there,
       type_known,
-      sym tested.crc_right.ensures ∙ c.if-not-crc_right.true,
+      sym c.crc_right.ensures ∙ c.if-not-crc_right.true,
     )
 
 pub returns-then-span-eq0 : goal.returns-then-span-eq0
@@ -56,8 +50,7 @@ returns-then-span-eq0 c =
     let type_known : known_type c.entry_at-entry.result ≡ true = sym c.is_known.ensures ∙ c.if-not-is_known.false in
     let crc_right' : crc_right c.entry_at-entry.result ≡ true = sym c.crc_right.ensures ∙ c.if-not-crc_right.false in
     let loaded : (left : ℕ) → let entry = c.entry_at-entry.result in header_refusal entry left ≡ first_rule ((span_off_page entry left, SpanOffPage) ∷ (wrong_span entry, WrongSpan) ∷ []) = λ left. rw (bytes_there, type_known, crc_right') in
-    let read = c in
-    rw (← read.entry_at-entry.ensures, loaded, eq-eqb (span_of read.entry_at-entry.result) 0 c.if-span-eq0.true)
+    rw (← c.entry_at-entry.ensures, loaded, eq-eqb (span_of c.entry_at-entry.result) 0 c.if-span-eq0.true)
 
 pub returns-then-span-index : goal.returns-then-span-index
 unfolding header_refusal
@@ -66,11 +59,10 @@ returns-then-span-index c =
     let type_known : known_type c.entry_at-entry.result ≡ true = sym c.is_known.ensures ∙ c.if-not-is_known.false in
     let crc_right' : crc_right c.entry_at-entry.result ≡ true = sym c.crc_right.ensures ∙ c.if-not-crc_right.false in
     let loaded : (left : ℕ) → let entry = c.entry_at-entry.result in header_refusal entry left ≡ first_rule ((span_off_page entry left, SpanOffPage) ∷ (wrong_span entry, WrongSpan) ∷ []) = λ left. rw (bytes_there, type_known, crc_right') in
-    let read = c in
-    let entry = read.entry_at-entry.result in
-    let args = read.args in
+    let entry = c.entry_at-entry.result in
+    let args = c.args in
     rw (
-      ← read.entry_at-entry.ensures,
+      ← c.entry_at-entry.ensures,
       loaded,
       ne_eqb (span_of entry) 0 c.if-span-eq0.false,
       entries_left args.image.now args.index,

@@ -1,8 +1,6 @@
 -- `page_write::active_refusal` meets its contract: each `return` is the first check that refuses, or none.
 use mathlib.Core.Path.{◌≡◌, sym, ◌∙◌}
 use mathlib.Core.Bool.{true}
-use borrow.Author.Rules.{rules}
-use borrow.Author.Tests.{not-true, not-false}
 use Rattle.page.specs.Record.{fit_to_use}
 use Rattle.page_write.proofs.active_refusal.Goals as goal
 

@@ -1,5 +1,4 @@
 -- `page_write::append_refusal` meets its contract: the length is the first check, and the record's checks stand after it.
-use borrow.Author.Rules.{rules}
 use borrow.Author.Tests.{eq-eqb, ne_eqb}
 use Rattle.page_write.proofs.append_refusal.Goals as goal
 

@@ -1,5 +1,4 @@
 -- `page_write::len_after` meets its contract: its test is the definition's.
-use borrow.Author.Rules.{rules}
 use borrow.Author.Tests.{eq-eqb, ne_eqb}
 use Rattle.page_write.proofs.len_after.Goals as goal
 

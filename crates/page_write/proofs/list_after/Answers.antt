@@ -1,5 +1,4 @@
 -- `page_write::list_after` meets its contract: the place after the list's length is stored, or none is.
-use borrow.Author.Rules.{rules}
 use borrow.Author.Tests.{eq-eqb, ne_eqb}
 use Rattle.page_write.proofs.list_after.Goals as goal
 

@@ -1,7 +1,6 @@
 -- `page_write::seal` meets its contract: marks, then the state word with what they leave of the budget, or no state word.
 use mathlib.Core.List.{append-nil}
 use native.Mathlib.Omega.{arith}
-use borrow.Author.Rules.{rules}
 use borrow.Author.Tests.{eq-eqb, ne_eqb}
 use Rattle.flash.specs.Flash.{units}
 use Rattle.sector.specs.declared.PageState.TheVariants.{Full}
@@ -19,28 +18,22 @@ returns-then-start-span-ne-ENTRIES_PER_PAGE c =
 
 pub overflow_add-result : goal.overflow_add-result
 overflow_add-result c =
-    let full = c in
-    let marks = full in
-    let start = marks in
     omega (
       arith,
-      marks.write_marks-marks.ensures.total,
-      length-map_units_le start.args.start start.args.span start.args.map start.requires.2,
-      full.write_full-full.ensures.total,
+      c.write_marks-marks.ensures.total,
+      length-map_units_le c.args.start c.args.span c.args.map c.requires.2,
+      c.write_full-full.ensures.total,
       length-full_units 126,
     )
 
 pub returns : goal.returns
 returns c =
-    let full = c in
-    let else = full in
-    let marks = else in
-    let z = marks.args in
-    rw (eq-eqb _ 126 else.if-start-span-ne-ENTRIES_PER_PAGE.false)
+    let z = c.args in
+    rw (eq-eqb _ 126 c.if-start-span-ne-ENTRIES_PER_PAGE.false)
     (let both = run_both z.budget (map_units z.start z.span z.map) (units 0 (state_bytes Full)) z.image.now
-    marks.write_marks-marks.ensures.total
-    full.write_full-full.ensures.total
-    full.remaining.ensures
-    marks.write_marks-marks.ensures.image
-    full.write_full-full.ensures.image in
+    c.write_marks-marks.ensures.total
+    c.write_full-full.ensures.total
+    c.remaining.ensures
+    c.write_marks-marks.ensures.image
+    c.write_full-full.ensures.image in
     record { total = both.0; image = both.1 })

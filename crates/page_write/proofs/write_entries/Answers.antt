@@ -2,7 +2,6 @@
 use mathlib.Core.List.{◌++◌}
 use Prim.Native.Nat.{◌+◌}
 use native.Mathlib.Omega.{arith}
-use borrow.Author.Rules.{rules}
 use Rattle.flash.specs.Flash.{units}
 use Rattle.flash.proofs.Laws.{length-units_le, run_both}
 use Rattle.sector.specs.Map.{map_units}
@@ -12,31 +11,26 @@ use Rattle.page_write.proofs.write_entries.Goals as goal
 
 pub overflow_add-result : goal.overflow_add-result
 overflow_add-result c =
-    let sealed = c in
-    let entries = sealed in
-    let start = entries in
-    let z = start.args in
+    let z = c.args in
     omega (
       arith,
-      entries.write_aligned-entries.ensures.total,
-      length-units_le entries.entry_address.result z.bytes.now,
-      sealed.seal-sealed.ensures.total,
-      length_seal_le z.start z.span z.map start.requires.3,
+      c.write_aligned-entries.ensures.total,
+      length-units_le c.entry_address.result z.bytes.now,
+      c.seal-sealed.ensures.total,
+      length_seal_le z.start z.span z.map c.requires.3,
     )
 
 pub returns : goal.returns
 returns c =
-    let sealed = c in
-    let entries = sealed in
-    let z = entries.args in
-    rw (← entries.entry_address.ensures)
+    let z = c.args in
+    rw (← c.entry_address.ensures)
     (let both = run_both z.budget
-    (units entries.entry_address.result z.bytes.now)
+    (units c.entry_address.result z.bytes.now)
     (map_units z.start z.span z.map ++ full_units (z.start + z.span))
     z.image.now
-    entries.write_aligned-entries.ensures.total
-    sealed.seal-sealed.ensures.total
-    sealed.remaining.ensures
-    entries.write_aligned-entries.ensures.image
-    sealed.seal-sealed.ensures.image in
+    c.write_aligned-entries.ensures.total
+    c.seal-sealed.ensures.total
+    c.remaining.ensures
+    c.write_aligned-entries.ensures.image
+    c.seal-sealed.ensures.image in
     record { total = both.0; image = both.1 })

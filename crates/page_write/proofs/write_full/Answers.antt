@@ -1,5 +1,4 @@
 -- `page_write::write_full` meets its contract: it writes the state word's four bytes at 0.
-use borrow.Author.Rules.{rules}
 use Rattle.page_write.proofs.write_full.Goals as goal
 
 pub returns : goal.returns

@@ -2,7 +2,6 @@
 use mathlib.Core.Path.{◌≡◌}
 use Prim.Native.Nat.{ℕ, ◌+◌, ◌-◌, ◌*◌, ◌/◌, ◌≤◌}
 use native.Mathlib.Omega.{arith}
-use borrow.Author.Rules.{rules}
 use Rattle.sector.specs.Map.{map_units}
 use Rattle.page_write.proofs.write_marks.Goals as goal
 
@@ -12,7 +11,6 @@ size i n h = omega arith
 pub returns : goal.returns
 unfolding map_units
 returns c =
-    let start = c in
-    rw (size start.args.index start.args.span start.requires.1)
+    rw (size c.args.index c.args.span c.requires.1)
     (let both = c.write_aligned.ensures in
     record { total = both.total; image = both.image })

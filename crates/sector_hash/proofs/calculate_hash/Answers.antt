@@ -3,7 +3,6 @@ use mathlib.Core.Path.{◌≡◌, ap, ◌∙◌}
 use mathlib.Core.List.{List, [], ◌∷◌, ◌++◌}
 use Prim.Native.Nat.{ℕ, ◌%◌, ◌^◌}
 use native.Mathlib.Omega.{arith}
-use borrow.Author.Rules.{rules}
 use lib.ListN.{length, replicate, set}
 use lib.Seq.{set_at}
 use Rattle.crc.specs.Crc.{crc32}
@@ -19,7 +18,6 @@ laid namespace chunk key e = rw (e, set_at key 0 [] chunk 16 e)
 pub returns : goal.returns
 unfolding hash_of
 returns c =
-    let put = c in
-    let z = put.args in
-    let bytes = ap (λ (out : List ℕ). set out 17 z.chunk) put.put.ensures ∙ laid z.namespace z.chunk z.key (omega arith) in
+    let z = c.args in
+    let bytes = ap (λ (out : List ℕ). set out 17 z.chunk) c.put.ensures ∙ laid z.namespace z.chunk z.key (omega arith) in
     ap (λ (crc : ℕ). crc % 2 ^ 24) (c.crc32.ensures ∙ ap (crc32 crc_start) bytes)

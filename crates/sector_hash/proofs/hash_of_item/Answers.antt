@@ -1,6 +1,5 @@
 -- `sector_hash::hash_of_item` meets its contract: it hashes namespace, key and chunk of the entry.
 use mathlib.Core.Path.{◌∙◌}
-use borrow.Author.Rules.{rules}
 use Rattle.sector_hash.proofs.hash_of_item.Goals as goal
 
 pub returns : goal.returns

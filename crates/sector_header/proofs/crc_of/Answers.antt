@@ -1,5 +1,4 @@
 -- `sector_header::crc_of` meets its contract: the part that is handed on is the field that `header_crc` names.
-use borrow.Author.Rules.{rules}
 use Rattle.sector.specs.Header.{header_crc}
 use Rattle.sector_header.proofs.crc_of.Goals as goal
 

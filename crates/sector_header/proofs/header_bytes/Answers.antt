@@ -3,7 +3,6 @@ use mathlib.Core.Path.{◌≡◌, ap, ap₂, ◌∙◌}
 use mathlib.Core.List.{List, ◌++◌}
 use Prim.Native.Nat.{ℕ}
 use native.Mathlib.Omega.{arith}
-use borrow.Author.Rules.{rules}
 use lib.ListN.{replicate, set, length-set}
 use Rattle.sector.specs.declared.PageState.TheVariants.{Active}
 use Rattle.sector.specs.Layout.{little_endian}
@@ -18,12 +17,9 @@ put-requires-3 c =
 pub returns : goal.returns
 unfolding header_bytes header_crc
 returns c =
-    let body : set c.put-2.new.out 8 0xFE ≡ little_endian 4 (word_of Active) ++ (header_body c.args.sequence ++ replicate 4 0xFF) = let numbered = c in
-    let first = numbered in
-    let active = first.little_endian-active.ensures in
-    let out = c.put-2.ensures ∙ ap₂ (λ (out four : List ℕ). over out 4 four) first.put.ensures numbered.little_endian-number.ensures in
+    let body : set c.put-2.new.out 8 0xFE ≡ little_endian 4 (word_of Active) ++ (header_body c.args.sequence ++ replicate 4 0xFF) = let active = c.little_endian-active.ensures in
+    let out = c.put-2.ensures ∙ ap₂ (λ (out four : List ℕ). over out 4 four) c.put.ensures c.little_endian-number.ensures in
     ap (λ (out : List ℕ). set out 8 0xFE) out ∙ rw active in
-    let coded = c in
     let bytes = body in
-    let crc = coded.little_endian-crc.ensures ∙ ap (little_endian 4) (coded.header_crc.ensures ∙ ap header_crc bytes) in
+    let crc = c.little_endian-crc.ensures ∙ ap (little_endian 4) (c.header_crc.ensures ∙ ap header_crc bytes) in
     c.put-3.ensures ∙ ap₂ (λ (out four : List ℕ). over out 28 four) bytes crc

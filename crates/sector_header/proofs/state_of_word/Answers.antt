@@ -1,7 +1,6 @@
 -- `sector_header::state_of_word` meets its contract: each arm is `state_of_word` at its word, and past the five keys no test of it holds.
 use borrow.Author.Rules.{rules}
 use mathlib.Core.Path.{sym, ap}
-use borrow.Author.Tests.{ne_eqb}
 use Rattle.sector.specs.Header.{state_of_word}
 use Rattle.sector_header.proofs.state_of_word.Goals as goal
 

@@ -1,6 +1,5 @@
 -- `sector_item::crc_right` meets its contract: the CRC made is compared with the one stored.
 use mathlib.Core.Path.{ap₂}
-use borrow.Author.Rules.{rules}
 use lib.Dec.{eqb}
 use Rattle.sector_item.proofs.crc_right.Goals as goal
 

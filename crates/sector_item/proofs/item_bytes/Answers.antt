@@ -3,7 +3,6 @@ use mathlib.Core.Path.{◌≡◌, ap, ap₂, ◌∙◌}
 use mathlib.Core.List.{List, ◌∷◌, ◌++◌, append-nil}
 use Prim.Native.Nat.{ℕ, ◌≤◌}
 use native.Mathlib.Omega.{arith}
-use borrow.Author.Rules.{rules}
 use lib.ListN.{length, replicate, drop_of_length-le, length-append}
 use lib.Seq.{take_at}
 use Rattle.sector.specs.Layout.{little_endian}
@@ -25,12 +24,10 @@ module _ (namespace kind span chunk : ℕ) (key bytes : List ℕ) (k : length ke
 pub returns : goal.returns
 unfolding item_bytes item_crc
 returns c =
-    let blank : let z = c.args in c.put-2.new.out ≡ blank_crc z.namespace z.kind z.span z.chunk z.key z.bytes = let first = c in
-    let z = first.args in
+    let blank : let z = c.args in c.put-2.new.out ≡ blank_crc z.namespace z.kind z.span z.chunk z.key z.bytes = let z = c.args in
     c.put-2.ensures
-    ∙ ap (λ (out : List ℕ). over out 24 z.bytes) first.put.ensures
+    ∙ ap (λ (out : List ℕ). over out 24 z.bytes) c.put.ensures
     ∙ laid z.namespace z.kind z.span z.chunk z.key z.bytes (omega arith) (omega arith) in
-    let coded = c in
     let bytes = blank in
-    let crc = coded.little_endian-crc.ensures ∙ ap (little_endian 4) (coded.item_crc.ensures ∙ ap item_crc bytes) in
+    let crc = c.little_endian-crc.ensures ∙ ap (little_endian 4) (c.item_crc.ensures ∙ ap item_crc bytes) in
     c.put-3.ensures ∙ ap₂ (λ (out four : List ℕ). over out 4 four) bytes crc

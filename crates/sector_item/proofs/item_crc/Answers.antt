@@ -3,7 +3,6 @@ use mathlib.Core.Path.{◌≡◌, ap, ◌∙◌}
 use mathlib.Core.List.{List, ◌++◌}
 use Prim.Native.Nat.{ℕ}
 use native.Mathlib.Omega.{arith}
-use borrow.Author.Rules.{rules}
 use lib.ListN.{take, drop, replicate, length-take, length-drop}
 use lib.Seq.{take_all}
 use Rattle.crc.specs.Crc.{crc32}
@@ -22,10 +21,9 @@ put-requires c =
 pub returns : goal.returns
 unfolding item_crc
 returns c =
-    let covered : let entry = c.args.entry in c.put-2.new.out ≡ take 4 entry ++ drop 8 entry = let first = c in
-    let entry = first.args.entry in
+    let covered : let entry = c.args.entry in c.put-2.new.out ≡ take 4 entry ++ drop 8 entry = let entry = c.args.entry in
     let behind : take 24 (drop 8 entry) ≡ drop 8 entry = take_all 24 (drop 8 entry) (simp length-drop (omega arith)) in
     c.put-2.ensures
-    ∙ ap (λ (out : List ℕ). over out 4 (take 24 (drop 8 entry))) first.put.ensures
+    ∙ ap (λ (out : List ℕ). over out 4 (take 24 (drop 8 entry))) c.put.ensures
     ∙ rw behind (over_both (replicate 28 0) (take 4 entry) (drop 8 entry) 4 (simp length-take (omega arith)) (simp length-drop (omega arith))) in
     c.crc32.ensures ∙ ap (crc32 crc_start) covered

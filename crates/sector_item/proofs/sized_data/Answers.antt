@@ -1,6 +1,5 @@
 -- `sector_item::sized_data` meets its contract: the CRC is laid over the last four of eight bytes, whose first two are the size.
 use mathlib.Core.Path.{ap, ◌∙◌}
-use borrow.Author.Rules.{rules}
 use Rattle.crc.specs.Crc.{crc32}
 use Rattle.sector.specs.Layout.{little_endian}
 use Rattle.sector.specs.Item.{sized_data}
@@ -9,6 +8,5 @@ use Rattle.sector_item.proofs.sized_data.Goals as goal
 pub returns : goal.returns
 unfolding sized_data
 returns c =
-    let coded = c in
-    let crc = coded.little_endian-crc.ensures ∙ ap (little_endian 4) coded.crc32.ensures in
+    let crc = c.little_endian-crc.ensures ∙ ap (little_endian 4) c.crc32.ensures in
     c.put.ensures ∙ rw crc

@@ -1,7 +1,6 @@
 -- `sector_map::get_entry_state` meets its contract: the test is that of `entry_state`.
 use mathlib.Core.Path.{ap}
 use borrow.Author.Tests.{le-ltb, lt-ltb}
-use borrow.Author.Rules.{rules}
 use Rattle.sector.specs.declared.Answer.TheVariants.{Done}
 use Rattle.sector.specs.declared.EntryMapState.{EntryMapState}
 use Rattle.sector.specs.declared.StateAnswer.{StateAnswer}

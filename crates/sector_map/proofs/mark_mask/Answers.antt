@@ -2,7 +2,6 @@
 use mathlib.Core.Path.{◌≡◌, ap}
 use Prim.Native.Nat.{ℕ, zero, suc, ◌-◌, ◌*◌, ◌%◌, ◌^◌, ◌<◌, ◌≤◌}
 use native.Mathlib.Omega.{arith}
-use borrow.Author.Rules.{rules}
 use Rattle.sector.specs.Map.{bits_of}
 use Rattle.sector.proofs.Laws.{bits_le}
 use Rattle.sector_map.proofs.mark_mask.Goals as goal

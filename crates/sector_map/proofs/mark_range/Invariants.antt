@@ -1,12 +1,6 @@
 -- `sector_map::mark_range` meets its contract: the marks still to come, made on what there is, are all the marks on the map.
-use mathlib.Core.Path.{◌≡◌, sym, ap, ap₂, ◌∙◌}
-use mathlib.Core.List.{List}
-use Prim.Native.Nat.{ℕ, suc, ◌+◌, ◌-◌, ◌/◌, ◌≤◌}
-use native.Mathlib.Numerals.{add-one}
-use native.Mathlib.Omega.{arith}
-use borrow.Author.Rules.{rules}
-use lib.Bits.{bit_and}
-use lib.ListN.{get_or, set}
+use mathlib.Core.Path.{◌≡◌}
+use Prim.Native.Nat.{◌+◌, ◌-◌, ◌≤◌}
 use Rattle.sector.specs.Map.{mark_range}
 use Rattle.sector_map.proofs.mark_range.Given as goal
 

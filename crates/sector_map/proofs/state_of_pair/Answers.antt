@@ -2,7 +2,6 @@
 use mathlib.Core.Path.{◌≡◌, sym, ap, ◌∙◌}
 use Prim.Native.Nat.{ℕ, ◌*◌, ◌/◌, ◌%◌, ◌^◌}
 use native.Mathlib.Omega.{arith}
-use borrow.Author.Rules.{rules}
 use Rattle.sector.specs.Map.{state_of_bits}
 use Rattle.sector.proofs.Laws.{pow_four}
 use Rattle.sector_map.proofs.state_of_pair.Goals as goal

@@ -1,7 +1,6 @@
 -- `sector_types::get_primitive_bytes_width` meets its contract: the test is that of `primitive_width`, on the width that `kind_of` gives.
 use mathlib.Core.Path.{◌≡◌, sym, ap, ◌∙◌}
 use Prim.Native.Nat.{ℕ}
-use borrow.Author.Rules.{rules}
 use borrow.Author.Tests.{eq-eqb, ne_eqb}
 use Rattle.sector.specs.declared.Answer.TheVariants.{Done, ItemTypeMismatch}
 use Rattle.sector.specs.declared.Kind.{Kind}

@@ -1,7 +1,6 @@
 -- `sector_types::is_known_lem` meets its contract: `type_byte` leaves the byte as it is.
 use mathlib.Core.Path.{ap}
 use Prim.Native.Nat.{ℕ}
-use borrow.Author.Rules.{rules}
 use lib.Dec.{eqb}
 use Rattle.sector_types.proofs.is_known.Goals as goal
 

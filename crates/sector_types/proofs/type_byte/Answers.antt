@@ -1,6 +1,5 @@
 -- `sector_types::type_byte` meets its contract: the byte of the type that `kind_of` names.
 use mathlib.Core.Path.{ap, ◌∙◌}
-use borrow.Author.Rules.{rules}
 use Rattle.sector.specs.declared.Kind.{Kind}
 use Rattle.sector.specs.Types.{byte_of, kind_of}
 use Rattle.sector_types.proofs.type_byte.Goals as goal

@@ -59,14 +59,9 @@ shape_of-buffer c =
 pub returns : goal.returns
 unfolding state_given
 returns c =
-    let gave = c in
-    let bits = gave in
-    let found = bits in
-    let array = found in
-    let past = array in
-    let index = past.args.index in
-    let state = found.get_entry_state-found.ensures ∙ ap (λ (map : List ℕ). entry_state map index) array.array_32.ensures in
-    rw (right_size 57 _ past.if-buffer-ne-ANSWER_SIZE.false, right_size 32 _ past.if-bytes-ne-MAP_SIZE.false)
+    let index = c.args.index in
+    let state = c.get_entry_state-found.ensures ∙ ap (λ (map : List ℕ). entry_state map index) c.array_32.ensures in
+    rw (right_size 57 _ c.if-buffer-ne-ANSWER_SIZE.false, right_size 32 _ c.if-bytes-ne-MAP_SIZE.false)
     (let both = given_of (λ (s : StateAnswer). s.answer) (λ s. bits_of s.state) (λ s. zero_item) state
-    (gave.give.ensures.number, rw bits.bits_of.ensures at gave.give.ensures.buffer) in
+    (c.give.ensures.number, rw c.bits_of.ensures at c.give.ensures.buffer) in
     record { number = both.0; buffer = both.1 })

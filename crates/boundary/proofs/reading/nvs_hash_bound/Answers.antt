@@ -60,14 +60,9 @@ shape_of-buffer c =
 pub returns : goal.returns
 unfolding bound_given
 returns c =
-    let gave = c in
-    let bound = gave in
-    let cut = bound in
-    let array = cut in
-    let past = array in
-    rw (right_size 57 _ past.if-buffer-ne-ANSWER_SIZE.false, right_size 32 _ past.if-bytes-ne-MAP_SIZE.false, right_size 4032 _ past.if-entries-ne-ENTRIES_SIZE.false) (record {
-      number = gave.give.ensures.number;
-      buffer = gave.give.ensures.buffer
+    rw (right_size 57 _ c.if-buffer-ne-ANSWER_SIZE.false, right_size 32 _ c.if-bytes-ne-MAP_SIZE.false, right_size 4032 _ c.if-entries-ne-ENTRIES_SIZE.false) (record {
+      number = c.give.ensures.number;
+      buffer = c.give.ensures.buffer
           ∙ ap (λ (value : ℕ). answer_bytes 0 value zero_item no_counts)
-          (bound.hashed_item_bound-count.ensures ∙ ap₂ hash_bound array.array_32.ensures cut.entries_of.ensures);
+          (c.hashed_item_bound-count.ensures ∙ ap₂ hash_bound c.array_32.ensures c.entries_of.ensures);
     })

@@ -39,12 +39,9 @@ shape_of-buffer c =
 pub returns : goal.returns
 unfolding data_given data_left
 returns c =
-    let gave = c in
-    let found = gave in
-    let past = found in
-    let loaded = found.load_referenced_data_into-loaded.ensures in
-    let given = given_of (λ (d : DataLoaded). d.answer) (λ d. d.size) (λ d. zero_item) loaded.answer (gave.give.ensures.number, gave.give.ensures.buffer) in
-    rw (right_size 57 _ past.if-buffer-ne-ANSWER_SIZE.false) (record {
+    let loaded = c.load_referenced_data_into-loaded.ensures in
+    let given = given_of (λ (d : DataLoaded). d.answer) (λ d. d.size) (λ d. zero_item) loaded.answer (c.give.ensures.number, c.give.ensures.buffer) in
+    rw (right_size 57 _ c.if-buffer-ne-ANSWER_SIZE.false) (record {
       number = given.0;
       output = loaded.output;
       buffer = given.1;

@@ -32,9 +32,6 @@ shape_of-buffer c =
 pub returns : goal.returns
 unfolding raw_given
 returns c =
-    let gave = c in
-    let found = gave in
-    let past = found in
-    rw (right_size 57 _ past.if-buffer-ne-ANSWER_SIZE.false)
-    (let both = given_of (λ (l : Loaded). l.answer) (λ l. 0) (λ l. l.item) found.read_raw_entry-loaded.ensures (gave.give.ensures.number, gave.give.ensures.buffer) in
+    rw (right_size 57 _ c.if-buffer-ne-ANSWER_SIZE.false)
+    (let both = given_of (λ (l : Loaded). l.answer) (λ l. 0) (λ l. l.item) c.read_raw_entry-loaded.ensures (c.give.ensures.number, c.give.ensures.buffer) in
     record { number = both.0; buffer = both.1 })

@@ -46,12 +46,8 @@ shape_of-buffer c =
 pub returns : goal.returns
 unfolding statistics_given
 returns c =
-    let put = c in
-    let counted = put in
-    let array = counted in
-    let past = array in
-    rw (right_size 57 _ past.if-buffer-ne-ANSWER_SIZE.false, right_size 32 _ past.if-bytes-ne-MAP_SIZE.false) (record {
+    rw (right_size 57 _ c.if-buffer-ne-ANSWER_SIZE.false, right_size 32 _ c.if-bytes-ne-MAP_SIZE.false) (record {
       number = refl;
-      buffer = put.put_answer.ensures
-          ∙ ap (answer_bytes 0 0 zero_item) (counted.get_entry_statistics-counts.ensures ∙ ap statistics array.array_32.ensures);
+      buffer = c.put_answer.ensures
+          ∙ ap (answer_bytes 0 0 zero_item) (c.get_entry_statistics-counts.ensures ∙ ap statistics c.array_32.ensures);
     })

@@ -38,9 +38,6 @@ shape_of-buffer c =
 pub returns : goal.returns
 unfolding width_given
 returns c =
-    let gave = c in
-    let found = gave in
-    let past = found in
-    rw (right_size 57 _ past.if-buffer-ne-ANSWER_SIZE.false)
-    (let both = given_of (λ (w : WidthAnswer). w.answer) (λ w. w.width) (λ w. zero_item) found.get_primitive_bytes_width-found.ensures (gave.give.ensures.number, gave.give.ensures.buffer) in
+    rw (right_size 57 _ c.if-buffer-ne-ANSWER_SIZE.false)
+    (let both = given_of (λ (w : WidthAnswer). w.answer) (λ w. w.width) (λ w. zero_item) c.get_primitive_bytes_width-found.ensures (c.give.ensures.number, c.give.ensures.buffer) in
     record { number = both.0; buffer = both.1 })

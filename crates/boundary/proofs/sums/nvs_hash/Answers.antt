@@ -54,11 +54,7 @@ shape_of-buffer c =
 pub returns : goal.returns
 unfolding hash_given
 returns c =
-    let gave = c in
-    let summed = gave in
-    let array = summed in
-    let past = array in
-    let z = past.args in
-    rw (right_size 57 _ past.if-buffer-ne-ANSWER_SIZE.false, right_size 16 _ past.if-key-ne-KEY_SIZE.false)
-    (let both = given_of (λ (n : ℕ). Done) (λ (n : ℕ). n) (λ (n : ℕ). zero_item) (summed.calculate_hash-hash.ensures ∙ ap (λ (key : List ℕ). hash_of z.namespace key z.chunk) array.array_16.ensures) (gave.give.ensures.number, gave.give.ensures.buffer) in
+    let z = c.args in
+    rw (right_size 57 _ c.if-buffer-ne-ANSWER_SIZE.false, right_size 16 _ c.if-key-ne-KEY_SIZE.false)
+    (let both = given_of (λ (n : ℕ). Done) (λ (n : ℕ). n) (λ (n : ℕ). zero_item) (c.calculate_hash-hash.ensures ∙ ap (λ (key : List ℕ). hash_of z.namespace key z.chunk) c.array_16.ensures) (c.give.ensures.number, c.give.ensures.buffer) in
     record { number = both.0; buffer = both.1 })

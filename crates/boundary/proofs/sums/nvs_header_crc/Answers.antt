@@ -53,10 +53,6 @@ shape_of-buffer c =
 pub returns : goal.returns
 unfolding header_crc_given
 returns c =
-    let gave = c in
-    let summed = gave in
-    let array = summed in
-    let past = array in
-    rw (right_size 57 _ past.if-buffer-ne-ANSWER_SIZE.false, right_size 32 _ past.if-bytes-ne-ENTRY_SIZE.false)
-    (let both = given_of (λ (n : ℕ). Done) (λ (n : ℕ). n) (λ (n : ℕ). zero_item) (summed.header_crc-crc.ensures ∙ ap header_crc array.array_32.ensures) (gave.give.ensures.number, gave.give.ensures.buffer) in
+    rw (right_size 57 _ c.if-buffer-ne-ANSWER_SIZE.false, right_size 32 _ c.if-bytes-ne-ENTRY_SIZE.false)
+    (let both = given_of (λ (n : ℕ). Done) (λ (n : ℕ). n) (λ (n : ℕ). zero_item) (c.header_crc-crc.ensures ∙ ap header_crc c.array_32.ensures) (c.give.ensures.number, c.give.ensures.buffer) in
     record { number = both.0; buffer = both.1 })

@@ -57,12 +57,8 @@ shape_of-buffer c =
 pub returns : goal.returns
 unfolding namespace_left
 returns c =
-    let handed = c in
-    let called = handed in
-    let read = called in
-    let past = read in
-    let z = past.args in
-    rw (right_size 675 _ past.if-buffer-ne-RECORD_SIZE.false, right_size 16 _ past.if-key-ne-KEY_SIZE.false)
+    let z = c.args in
+    rw (right_size 675 _ c.if-buffer-ne-RECORD_SIZE.false, right_size 16 _ c.if-key-ne-KEY_SIZE.false)
     (let both = called_over (λ page. append_single z.image.now page (namespace_item z.key.now z.value) z.stop) (λ page. append_single_image z.image.now page (namespace_item z.key.now z.value) z.stop) z.buffer.now
-    read.record_of-page.ensures (rw read.array_16-name.ensures at called.write_namespace-outcome.ensures.answer, rw read.array_16-name.ensures at called.write_namespace-outcome.ensures.image) (handed.hand_back.ensures.number, handed.hand_back.ensures.buffer) in
+    c.record_of-page.ensures (rw c.array_16-name.ensures at c.write_namespace-outcome.ensures.answer, rw c.array_16-name.ensures at c.write_namespace-outcome.ensures.image) (c.hand_back.ensures.number, c.hand_back.ensures.buffer) in
     record { number = both.0; image = both.1.0; buffer = both.1.1 })

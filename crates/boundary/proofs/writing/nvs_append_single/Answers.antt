@@ -71,13 +71,9 @@ shape_of-buffer c =
 pub returns : goal.returns
 unfolding single_left
 returns c =
-    let handed = c in
-    let called = handed in
-    let read = called in
-    let past = read in
-    let z = past.args in
+    let z = c.args in
     let item = single_of z.namespace z.kind z.span z.chunk z.key.now z.bytes.now in
-    rw (right_size 675 _ past.if-buffer-ne-RECORD_SIZE.false, right_size 16 _ past.if-key-ne-KEY_SIZE.false, right_size 8 _ past.if-bytes-ne-SINGLE_SIZE.false)
+    rw (right_size 675 _ c.if-buffer-ne-RECORD_SIZE.false, right_size 16 _ c.if-key-ne-KEY_SIZE.false, right_size 8 _ c.if-bytes-ne-SINGLE_SIZE.false)
     (let both = called_over (λ page. append_single z.image.now page item z.stop) (λ page. append_single_image z.image.now page item z.stop) z.buffer.now
-    read.record_of-page.ensures (rw (read.array_16.ensures, read.array_8.ensures) at called.write_item-outcome.ensures.answer, rw (read.array_16.ensures, read.array_8.ensures) at called.write_item-outcome.ensures.image) (handed.hand_back.ensures.number, handed.hand_back.ensures.buffer) in
+    c.record_of-page.ensures (rw (c.array_16.ensures, c.array_8.ensures) at c.write_item-outcome.ensures.answer, rw (c.array_16.ensures, c.array_8.ensures) at c.write_item-outcome.ensures.image) (c.hand_back.ensures.number, c.hand_back.ensures.buffer) in
     record { number = both.0; image = both.1.0; buffer = both.1.1 })

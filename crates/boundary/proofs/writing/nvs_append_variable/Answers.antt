@@ -57,13 +57,9 @@ shape_of-buffer c =
 pub returns : goal.returns
 unfolding variable_left
 returns c =
-    let handed = c in
-    let called = handed in
-    let read = called in
-    let past = read in
-    let z = past.args in
+    let z = c.args in
     let item = variable_of z.namespace z.kind z.chunk z.key.now in
-    rw (right_size 675 _ past.if-buffer-ne-RECORD_SIZE.false, right_size 16 _ past.if-key-ne-KEY_SIZE.false)
+    rw (right_size 675 _ c.if-buffer-ne-RECORD_SIZE.false, right_size 16 _ c.if-key-ne-KEY_SIZE.false)
     (let both = called_over (λ page. append_variable z.image.now page item z.payload.now z.stop) (λ page. append_variable_image z.image.now page item z.payload.now z.stop) z.buffer.now
-    read.record_of-page.ensures (rw read.array_16.ensures at called.write_variable_sized_item-outcome.ensures.answer, rw read.array_16.ensures at called.write_variable_sized_item-outcome.ensures.image) (handed.hand_back.ensures.number, handed.hand_back.ensures.buffer) in
+    c.record_of-page.ensures (rw c.array_16.ensures at c.write_variable_sized_item-outcome.ensures.answer, rw c.array_16.ensures at c.write_variable_sized_item-outcome.ensures.image) (c.hand_back.ensures.number, c.hand_back.ensures.buffer) in
     record { number = both.0; image = both.1.0; buffer = both.1.1 })

@@ -43,12 +43,8 @@ shape_of-buffer c =
 pub returns : goal.returns
 unfolding copy_left
 returns c =
-    let handed = c in
-    let called = handed in
-    let read = called in
-    let past = read in
-    let z = past.args in
-    rw (right_size 675 _ past.if-buffer-ne-RECORD_SIZE.false)
+    let z = c.args in
+    rw (right_size 675 _ c.if-buffer-ne-RECORD_SIZE.false)
     (let both = called_over (λ page. copy_in z.image.now page z.source.now z.index z.stop) (λ page. copy_in_image z.image.now page z.source.now z.index z.stop) z.buffer.now
-    read.record_of-page.ensures (called.copy_item_from-outcome.ensures.answer, called.copy_item_from-outcome.ensures.image) (handed.hand_back.ensures.number, handed.hand_back.ensures.buffer) in
+    c.record_of-page.ensures (c.copy_item_from-outcome.ensures.answer, c.copy_item_from-outcome.ensures.image) (c.hand_back.ensures.number, c.hand_back.ensures.buffer) in
     record { number = both.0; image = both.1.0; buffer = both.1.1 })

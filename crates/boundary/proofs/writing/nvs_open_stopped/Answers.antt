@@ -37,9 +37,6 @@ shape_of-buffer c =
 pub returns : goal.returns
 unfolding open_stopped_left
 returns c =
-    let handed = c in
-    let opened = handed in
-    let past = opened in
-    rw (right_size 675 _ past.if-buffer-ne-RECORD_SIZE.false)
-    (let both = opened_as _ (opened.open_stopped-outcome.ensures.answer, opened.open_stopped-outcome.ensures.image) (handed.hand_opened.ensures.number, handed.hand_opened.ensures.buffer) in
+    rw (right_size 675 _ c.if-buffer-ne-RECORD_SIZE.false)
+    (let both = opened_as _ (c.open_stopped-outcome.ensures.answer, c.open_stopped-outcome.ensures.image) (c.hand_opened.ensures.number, c.hand_opened.ensures.buffer) in
     record { number = both.0; image = both.1.0; buffer = both.1.1 })

@@ -1,6 +1,5 @@
 -- `nvs_purge` meets its contract: the number of the call's answer.
 use mathlib.Core.Path.{ap, ◌∙◌}
-use borrow.Author.Rules.{rules}
 use Rattle.sector.specs.Answers.{number_of}
 use Rattle.boundary.proofs.writing.nvs_purge.Goals as goal
 

@@ -43,12 +43,8 @@ shape_of-buffer c =
 pub returns : goal.returns
 unfolding purge_namespace_left
 returns c =
-    let handed = c in
-    let called = handed in
-    let read = called in
-    let past = read in
-    let z = past.args in
-    rw (right_size 675 _ past.if-buffer-ne-RECORD_SIZE.false)
+    let z = c.args in
+    rw (right_size 675 _ c.if-buffer-ne-RECORD_SIZE.false)
     (let both = called_over (λ page. purge_namespace z.image.now page z.namespace) (λ page. purge_namespace_image z.image.now page z.namespace) z.buffer.now
-    read.record_of-page.ensures (called.purge_erased_for_namespace-outcome.ensures.answer, called.purge_erased_for_namespace-outcome.ensures.image) (handed.hand_back.ensures.number, handed.hand_back.ensures.buffer) in
+    c.record_of-page.ensures (c.purge_erased_for_namespace-outcome.ensures.answer, c.purge_erased_for_namespace-outcome.ensures.image) (c.hand_back.ensures.number, c.hand_back.ensures.buffer) in
     record { number = both.0; image = both.1.0; buffer = both.1.1 })

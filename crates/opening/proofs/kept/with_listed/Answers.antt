@@ -1,5 +1,4 @@
 -- `kept::with_listed` meets its contract: the place after the last gets the item's hash and index.
-use borrow.Author.Rules.{rules}
 use borrow.Author.Tests.{eq-eqb, ne_eqb}
 use Rattle.sector.specs.Layout.{namespace_of}
 use Rattle.opening.proofs.kept.with_listed.Goals as goal
@@ -10,5 +9,4 @@ returns-then-entry-eq0 c =
 
 pub returns : goal.returns
 returns c =
-    let hashed = c in
-    rw (ne_eqb (namespace_of hashed.args.entry) 0 hashed.if-entry-eq0.false, hashed.hash_of_item-hash.ensures)
+    rw (ne_eqb (namespace_of c.args.entry) 0 c.if-entry-eq0.false, c.hash_of_item-hash.ensures)

@@ -2,7 +2,6 @@
 use mathlib.Core.Path.{◌≡◌, ap₂, ◌∙◌}
 use mathlib.Core.List.{List}
 use Prim.Native.Nat.{ℕ, zero}
-use borrow.Author.Rules.{rules}
 use Rattle.sector.specs.Layout.{map_of, entries_of}
 use Rattle.sector.specs.Map.{states_of}
 use Rattle.opening_reading.specs.Reading.{opened_states}

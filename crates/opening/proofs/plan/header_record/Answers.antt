@@ -2,7 +2,6 @@
 use mathlib.Core.Path.{◌≡◌, ap, ◌∙◌}
 use Prim.Native.Nat.{◌+◌}
 use native.Mathlib.Omega.{arith}
-use borrow.Author.Rules.{rules}
 use Rattle.sector.specs.Header.{state_of_word}
 use Rattle.sector.specs.Map.{statistics}
 use Rattle.sector.proofs.Laws.{statistics_sum}
@@ -12,13 +11,11 @@ use Rattle.opening.proofs.plan.header_record.Goals as goal
 pub returns : goal.returns
 unfolding header_record statistics
 returns c =
-    let counted = c in
-    let stated = counted in
     rw (
-      stated.state_of_word-state.ensures ∙ ap state_of_word stated.number_at.ensures,
-      counted.number_at-sequence.ensures,
-      counted.number_at-crc.ensures,
-      counted.get_entry_statistics-statistics.ensures,
+      c.state_of_word-state.ensures ∙ ap state_of_word c.number_at.ensures,
+      c.number_at-sequence.ensures,
+      c.number_at-crc.ensures,
+      c.get_entry_statistics-statistics.ensures,
     )
 
 pub overflow_cast-used : goal.overflow_cast-used

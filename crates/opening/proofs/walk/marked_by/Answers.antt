@@ -1,7 +1,5 @@
 -- `walk::marked_by` meets its contract: a range is marked for each verdict but NotAnItem, and it lies within the page.
-use Prim.Native.Nat.{◌+◌, ◌<◌}
 use native.Mathlib.Omega.{arith}
-use borrow.Author.Rules.{rules}
 use Rattle.opening.proofs.walk.marked_by.Goals as goal
 
 pub returns-in-RefusedItem : goal.returns-in-RefusedItem

@@ -1,22 +1,21 @@
 -- `walk::walk` meets its contract: up to the index reached the map, the refused headers and the list are the walk's, and from there on nothing is done yet.
 use mathlib.Core.Path.{◌≡◌, sym}
-use Prim.Native.Nat.{◌+◌, ◌-◌, ◌<◌, ◌≤◌}
+use Prim.Native.Nat.{◌+◌, ◌-◌, ◌<◌}
 use native.Mathlib.Omega.{arith}
 use borrow.Author.Rules.{rules}
 use lib.ListN.{length}
 use Rattle.opening_reading.specs.Reading.{steps_over}
 use Rattle.opening_marks.proofs.Arrays.{bytes_of_array}
 use Rattle.opening_reading.proofs.Steps.{verdict_of, steps_inside}
-use Rattle.opening.proofs.Progress.{MarkedTo, marked_start, marked_step, marked_end, HeadsTo, heads_start, heads_step, heads_end, ListedTo, listed_start, listed_step, listed_end}
+use Rattle.opening.proofs.Progress.{marked_start, marked_step, marked_end, heads_start, heads_step, heads_end, listed_start, listed_step, listed_end}
 use Rattle.opening.proofs.walk.walk.Goals as goal
 
 pub loop-index-init : goal.loop-index-init
 loop-index-init c =
     let long : length c.args.map ≡ 32 = c.well_formed.1.0.1.0.1 in
-    let start = c in
-    let image = start.args.image.now in
-    let map = start.args.map in
-    (search rules, marked_start image map long (bytes_of_array map _ start.well_formed.1.0.1.1), heads_start image map, rw c.empty-listing.ensures (listed_start image map))
+    let image = c.args.image.now in
+    let map = c.args.map in
+    (search rules, marked_start image map long (bytes_of_array map _ c.well_formed.1.0.1.1), heads_start image map, rw c.empty-listing.ensures (listed_start image map))
 
 pub loop-index-preserved : goal.loop-index-preserved
 loop-index-preserved c =
@@ -44,15 +43,13 @@ loop-index-preserved c =
 pub returns : goal.returns
 returns c =
     let long : length c.args.map ≡ 32 = c.well_formed.1.0.1.0.1 in
-    let at = c in
-    let start = at in
-    let image = start.args.image.now in
-    let map = start.args.map in
-    let end : at.loop-index.index ≡ 126 = omega arith in
+    let image = c.args.image.now in
+    let map = c.args.map in
+    let end : c.loop-index.index ≡ 126 = omega arith in
     record {
-      marks = marked_end image map at.loop-index.marked at.loop-index.index long end at.loop-index.invariant.1;
-      heads = heads_end image map at.loop-index.heads at.loop-index.index long end at.loop-index.invariant.2;
-      listing = listed_end image map at.loop-index.listing at.loop-index.index long end at.loop-index.invariant.3;
+      marks = marked_end image map c.loop-index.marked c.loop-index.index long end c.loop-index.invariant.1;
+      heads = heads_end image map c.loop-index.heads c.loop-index.index long end c.loop-index.invariant.2;
+      listing = listed_end image map c.loop-index.listing c.loop-index.index long end c.loop-index.invariant.3;
     }
 
 pub marked_by-next-requires : goal.marked_by-next-requires

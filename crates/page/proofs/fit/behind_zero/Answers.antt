@@ -1,12 +1,10 @@
 -- `page::fit::behind_zero` meets its contract: the places passed are zero, so those after them decide.
 use mathlib.Core.Path.{◌≡◌, refl, sym, ◌∙◌}
-use Prim.Native.Nat.{◌-◌, ◌≤◌}
+use Prim.Native.Nat.{◌-◌}
 use native.Mathlib.Omega.{arith}
 use borrow.Author.Rules.{rules}
-use borrow.Author.Tests.{not-true, not-false}
-use lib.ListN.{length, drop}
+use lib.ListN.{length}
 use lib.Seq.{drop-length}
-use Rattle.flash.specs.Flash.{every}
 use Rattle.page.specs.Record.{no_item, place_zero}
 use Rattle.page.proofs.Laws.{every_drop_true, every_drop_false}
 use Rattle.page.proofs.fit.behind_zero.Goals as goal
@@ -17,20 +15,18 @@ loop-k-init c =
 
 pub returns-then-not-place_zero : goal.returns-then-not-place_zero
 returns-then-not-place_zero c =
-    let at = c in
-    let list = at.args.list in
-    let long = at.well_formed.0.1.0.1 in
-    sym (every_drop_false place_zero list at.loop-k.k no_item (omega arith) (sym c.place_zero.ensures ∙ c.if-not-place_zero.true))
-    ∙ at.loop-k.invariant.1
+    let list = c.args.list in
+    let long = c.well_formed.0.1.0.1 in
+    sym (every_drop_false place_zero list c.loop-k.k no_item (omega arith) (sym c.place_zero.ensures ∙ c.if-not-place_zero.true))
+    ∙ c.loop-k.invariant.1
 
 pub loop-k-preserved : goal.loop-k-preserved
 loop-k-preserved c =
-    let at = c in
-    let list = at.args.list in
-    let long = at.well_formed.0.1.0.1 in (
+    let list = c.args.list in
+    let long = c.well_formed.0.1.0.1 in (
       omega arith,
-      sym (every_drop_true place_zero list at.loop-k.k no_item (omega arith) (sym c.place_zero.ensures ∙ c.if-not-place_zero.false))
-          ∙ at.loop-k.invariant.1,
+      sym (every_drop_true place_zero list c.loop-k.k no_item (omega arith) (sym c.place_zero.ensures ∙ c.if-not-place_zero.false))
+          ∙ c.loop-k.invariant.1,
     )
 
 pub returns : goal.returns

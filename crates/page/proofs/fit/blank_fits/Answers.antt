@@ -1,7 +1,5 @@
 -- `page::fit::blank_fits` meets its contract: only an Uninitialized record has to be blank.
 use mathlib.Core.Path.{sym, ◌∙◌}
-use borrow.Author.Rules.{rules}
-use borrow.Author.Tests.{not-false}
 use Rattle.page.proofs.fit.blank_fits.Goals as goal
 
 pub returns : goal.returns

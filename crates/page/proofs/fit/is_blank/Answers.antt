@@ -1,5 +1,4 @@
 -- `page::fit::is_blank` meets its contract: each `return` is the first test of `is_blank` that fails, or the last.
-use borrow.Author.Rules.{rules}
 use borrow.Author.Tests.{eq-eqb, ne_eqb}
 use Rattle.page.proofs.fit.is_blank.Goals as goal
 
@@ -13,61 +12,46 @@ returns-then-page-ne0-2 c =
 
 pub returns-then-page-ne0-3 : goal.returns-then-page-ne0-3
 returns-then-page-ne0-3 c =
-    let past2 = c in
-    rw (eq-eqb _ _ past2.if-page-ne0.false, eq-eqb _ _ past2.if-page-ne0-2.false, ne_eqb _ _ c.if-page-ne0-3.true)
+    rw (eq-eqb _ _ c.if-page-ne0.false, eq-eqb _ _ c.if-page-ne0-2.false, ne_eqb _ _ c.if-page-ne0-3.true)
 
 pub returns-then-page-ne0-4 : goal.returns-then-page-ne0-4
 returns-then-page-ne0-4 c =
-    let past3 = c in
-    let past2 = past3 in
     rw (
-      eq-eqb _ _ past2.if-page-ne0.false,
-      eq-eqb _ _ past2.if-page-ne0-2.false,
-      eq-eqb _ _ past3.if-page-ne0-3.false,
+      eq-eqb _ _ c.if-page-ne0.false,
+      eq-eqb _ _ c.if-page-ne0-2.false,
+      eq-eqb _ _ c.if-page-ne0-3.false,
       ne_eqb _ _ c.if-page-ne0-4.true,
     )
 
 pub returns-then-page-ne0-5 : goal.returns-then-page-ne0-5
 returns-then-page-ne0-5 c =
-    let past4 = c in
-    let past3 = past4 in
-    let past2 = past3 in
     rw (
-      eq-eqb _ _ past2.if-page-ne0.false,
-      eq-eqb _ _ past2.if-page-ne0-2.false,
-      eq-eqb _ _ past3.if-page-ne0-3.false,
-      eq-eqb _ _ past4.if-page-ne0-4.false,
+      eq-eqb _ _ c.if-page-ne0.false,
+      eq-eqb _ _ c.if-page-ne0-2.false,
+      eq-eqb _ _ c.if-page-ne0-3.false,
+      eq-eqb _ _ c.if-page-ne0-4.false,
       ne_eqb _ _ c.if-page-ne0-5.true,
     )
 
 pub returns-then-page-ne0-6 : goal.returns-then-page-ne0-6
 returns-then-page-ne0-6 c =
-    let past5 = c in
-    let past4 = past5 in
-    let past3 = past4 in
-    let past2 = past3 in
     rw (
-      eq-eqb _ _ past2.if-page-ne0.false,
-      eq-eqb _ _ past2.if-page-ne0-2.false,
-      eq-eqb _ _ past3.if-page-ne0-3.false,
-      eq-eqb _ _ past4.if-page-ne0-4.false,
-      eq-eqb _ _ past5.if-page-ne0-5.false,
+      eq-eqb _ _ c.if-page-ne0.false,
+      eq-eqb _ _ c.if-page-ne0-2.false,
+      eq-eqb _ _ c.if-page-ne0-3.false,
+      eq-eqb _ _ c.if-page-ne0-4.false,
+      eq-eqb _ _ c.if-page-ne0-5.false,
       ne_eqb _ _ c.if-page-ne0-6.true,
     )
 
 pub returns : goal.returns
 returns c =
-    let past6 = c in
-    let past5 = past6 in
-    let past4 = past5 in
-    let past3 = past4 in
-    let past2 = past3 in
     rw (
-      eq-eqb _ _ past2.if-page-ne0.false,
-      eq-eqb _ _ past2.if-page-ne0-2.false,
-      eq-eqb _ _ past3.if-page-ne0-3.false,
-      eq-eqb _ _ past4.if-page-ne0-4.false,
-      eq-eqb _ _ past5.if-page-ne0-5.false,
-      eq-eqb _ _ past6.if-page-ne0-6.false,
+      eq-eqb _ _ c.if-page-ne0.false,
+      eq-eqb _ _ c.if-page-ne0-2.false,
+      eq-eqb _ _ c.if-page-ne0-3.false,
+      eq-eqb _ _ c.if-page-ne0-4.false,
+      eq-eqb _ _ c.if-page-ne0-5.false,
+      eq-eqb _ _ c.if-page-ne0-6.false,
     )
     c.map_is_blank.ensures

@@ -1,13 +1,11 @@
 -- `page::fit::listed_fit` meets its contract: the places passed fit, so those after them decide.
 use mathlib.Core.Path.{◌≡◌, refl, sym, ◌∙◌}
 use mathlib.Core.List.{List}
-use Prim.Native.Nat.{ℕ, ◌-◌, ◌≤◌, ◌<◌}
+use Prim.Native.Nat.{ℕ, ◌-◌, ◌<◌}
 use native.Mathlib.Omega.{arith}
 use borrow.Author.Rules.{rules}
-use borrow.Author.Tests.{not-true, not-false}
-use lib.ListN.{length, get_or, take, drop}
+use lib.ListN.{length, get_or, take}
 use lib.Seq.{drop-length, get_or-take, length-take-le}
-use Rattle.flash.specs.Flash.{every}
 use Rattle.page.specs.declared.Listed.{Listed}
 use Rattle.page.specs.Record.{no_item, place_fits}
 use Rattle.page.proofs.Laws.{every_drop_true, every_drop_false}
@@ -24,9 +22,8 @@ returns-then-not-place_fits c =
     let length_used : length used ≡ c.args.len = let long = c.well_formed.0.1.0.1 in length-take-le c.args.len c.args.list (omega arith) in
     let inside : at < length used = let long = length_used in omega arith in
     let asked : place_fits (get_or used at no_item) ≡ c.place_fits.result = rw (get_or-take c.args.len c.args.list at no_item (omega arith)) (sym c.place_fits.ensures) in
-    let at_place = c in
     sym (every_drop_false place_fits used at no_item inside (asked ∙ c.if-not-place_fits.true))
-    ∙ at_place.loop-k.invariant.1
+    ∙ c.loop-k.invariant.1
 
 pub loop-k-preserved : goal.loop-k-preserved
 loop-k-preserved c =
@@ -34,11 +31,10 @@ loop-k-preserved c =
     let at : ℕ = c.loop-k.k in
     let length_used : length used ≡ c.args.len = let long = c.well_formed.0.1.0.1 in length-take-le c.args.len c.args.list (omega arith) in
     let inside : at < length used = let long = length_used in omega arith in
-    let asked : place_fits (get_or used at no_item) ≡ c.place_fits.result = rw (get_or-take c.args.len c.args.list at no_item (omega arith)) (sym c.place_fits.ensures) in
-    let at_place = c in (
+    let asked : place_fits (get_or used at no_item) ≡ c.place_fits.result = rw (get_or-take c.args.len c.args.list at no_item (omega arith)) (sym c.place_fits.ensures) in (
       omega arith,
       sym (every_drop_true place_fits used at no_item inside (asked ∙ c.if-not-place_fits.false))
-          ∙ at_place.loop-k.invariant.1,
+          ∙ c.loop-k.invariant.1,
     )
 
 pub returns : goal.returns

@@ -9,15 +9,13 @@ use Rattle.recorded_file.proofs.frame.copy.Goals as goal
 
 pub returns : goal.returns
 returns c =
-    let d = c in
-    let p = d in
-    let z = p.args in
+    let z = c.args in
     let part = field z.from z.size z.all.now in
     let whole : z.from + z.size - z.from ≡ z.size = omega arith in
-    let e : take z.size p.put.new.out ≡ part =
-    rw (p.put.ensures, whole) (take_at part _ z.size (rw (length-take, length-drop) (omega arith)))
+    let e : take z.size c.put.new.out ≡ part =
+    rw (c.put.ensures, whole) (take_at part _ z.size (rw (length-take, length-drop) (omega arith)))
     in
-    d.put-2.ensures ∙ rw e refl
+    c.put-2.ensures ∙ rw e refl
 
 pub put-requires-2 : goal.put-requires-2
 put-requires-2 c =

@@ -5,5 +5,4 @@ use Rattle.recorded_file.proofs.numbers.number_8.Goals as goal
 
 pub returns : goal.returns
 returns c =
-    let z = c in
-    (cc) ∙ sym (number_eight z.args.offset z.args.bytes.now z.requires)
+    (cc) ∙ sym (number_eight c.args.offset c.args.bytes.now c.requires)

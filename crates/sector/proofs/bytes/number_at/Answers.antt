@@ -24,5 +24,4 @@ field_four bytes i h =
 
 pub returns : goal.returns
 returns c =
-    let z = c in
-    c.number.ensures ∙ ap number (sym (field_four z.args.bytes.now z.args.offset z.requires))
+    c.number.ensures ∙ ap number (sym (field_four c.args.bytes.now c.args.offset c.requires))

@@ -15,12 +15,12 @@ loop-i-init c =
 
 pub returns-then-first-i : goal.returns-then-first-i
 returns-then-first-i c =
-    let at = c in let start = at in sym (same_bytes_differ start.args.first.now start.args.second.now at.loop-i.i (omega arith) (omega arith) c.if-first-i.true) ∙ at.loop-i.invariant.1
+    sym (same_bytes_differ c.args.first.now c.args.second.now c.loop-i.i (omega arith) (omega arith) c.if-first-i.true) ∙ c.loop-i.invariant.1
 
 pub loop-i-preserved : goal.loop-i-preserved
 loop-i-preserved c =
-    let at = c in let start = at in (omega arith, sym (same_bytes_pass start.args.first.now start.args.second.now at.loop-i.i (omega arith) (omega arith) c.if-first-i.false) ∙ at.loop-i.invariant.1)
+    (omega arith, sym (same_bytes_pass c.args.first.now c.args.second.now c.loop-i.i (omega arith) (omega arith) c.if-first-i.false) ∙ c.loop-i.invariant.1)
 
 pub returns : goal.returns
 returns c =
-    let at = c in let start = at in sym (same_bytes_end start.args.first.now start.args.second.now at.loop-i.i (omega arith) (omega arith)) ∙ at.loop-i.invariant.1
+    sym (same_bytes_end c.args.first.now c.args.second.now c.loop-i.i (omega arith) (omega arith)) ∙ c.loop-i.invariant.1

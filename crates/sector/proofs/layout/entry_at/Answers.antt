@@ -7,8 +7,7 @@ use Rattle.sector.proofs.layout.entry_at.Goals as goal
 
 pub returns : goal.returns
 returns c =
-    let at = c in
-    let start = at.entry_address-start.result in
+    let start = c.entry_address-start.result in
     let whole : start + 32 - start ≡ 32 = omega arith in
     c.array_32.ensures
-    ∙ ap₂ (λ (size offset : ℕ). take size (drop offset at.args.image.now)) whole at.entry_address-start.ensures
+    ∙ ap₂ (λ (size offset : ℕ). take size (drop offset c.args.image.now)) whole c.entry_address-start.ensures
