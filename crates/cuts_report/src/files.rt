@@ -69,14 +69,14 @@ fn start_of<F: Read>(file: &mut F) -> io::Result<Start> {
     Ok(Start { bytes, count, more })
 }
 
-// The start of a file, or none, and why: it cannot be opened, or read, as a folder.
+// The start of a file, or none, and why: it cannot be opened, or read, as a folder. What ends and then goes on is no file.
 pub(crate) fn read_start<R: Files + Print>(rt: &R, path: &[u8]) -> io::Result<Option<Start>> {
     let Some(mut file) = open(rt, path)? else {
         return Ok(None);
     };
     match start_of(&mut file) {
-        Ok(start) => Ok(Some(start)),
-        Err(_) => {
+        Ok(start) if start.count == SECTOR_SIZE || !start.more => Ok(Some(start)),
+        _ => {
             not_read(rt, path)?;
             Ok(None)
         }
