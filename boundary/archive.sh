@@ -1,5 +1,5 @@
 #!/bin/sh
-# archive.sh OUT.a: the C functions of nvs_page.h as a static library for the processor at hand.
+# archive.sh OUT.a: the C functions of nvs_page.h as a static library for x86-64 Linux.
 #
 # It is the library of the crate `boundary_c`, which `rt lib` proves and builds in that crate's folder. The compiler builds for x86-64
 # alone: on another processor this says so, and makes nothing.
