@@ -1,4 +1,5 @@
-// The page calls as C functions, over numbers and byte slices: `boundary/nvs_page.h` is the header for C.
+// The page calls over numbers and byte slices, as C calls them. The crate `boundary_c` exports each under its name, for
+// `boundary/nvs_page.h`.
 //
 // Each is total. BadCall, 255, is for a buffer of fixed size that has another length; it is checked before everything else,
 // and changes nothing. What is left to the caller: each pointer is good for its length, and a buffer that is written overlaps

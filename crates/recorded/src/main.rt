@@ -1,4 +1,4 @@
-// Replays the recorded answers of the Rust through the C functions, and prints how many cases agree.
+// Replays the recorded answers of the Rust through the functions that C calls by `boundary_c`, and prints how many cases agree.
 //
 // The file comes on standard input; `compare/RECORDED.md` has its format, and how it is made.
 #![tactic(auto)]

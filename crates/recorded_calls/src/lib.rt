@@ -1,4 +1,5 @@
-// A call of the recorded file (compare/RECORDED.md) on its buffers, through the C functions: what it leaves, and its result.
+// A call of the recorded file (compare/RECORDED.md) on its buffers, through the functions of `boundary`: what it leaves,
+// and its result.
 #![tactic(auto)]
 
 ghost use Rattle.std.specs.Prelude.{◌≡◌, ◌≤◌, length};
