@@ -93,7 +93,7 @@ entry_address-end-requires c =
     let spans : let n = span_of c.entry_at-entry.result in (1 ≤ n) × (index + n ≤ entries_per_page) × (next_free page + n ≤ entries_per_page) = let fit = fits in
     let same = ap span_of c.entry_at-entry.ensures in
     omega arith in
-    spans.1
+    omega (arith, spans.0, spans.1)
 
 pub slice_bounds-write_entries-end : goal.slice_bounds-write_entries-end
 slice_bounds-write_entries-end c =
