@@ -14,12 +14,13 @@ use borrow.Author.Tests.{eq-eqb, ne_eqb, not-true}
 use Rattle.flash.specs.Flash.{every}
 pub use Rattle.flash.proofs.Lists.{drop_replicate, copied_next, pow_four}
 use Rattle.flash.proofs.Lists.{Bytes, bytes_nil, bytes_cons}
-use Rattle.sector.specs.declared.Answer.{Answer}
-use Rattle.sector.specs.declared.Answer.TheVariants.{Done}
+use Rattle.std.specs.Prelude.{is_ok}
+use Rattle.sector.specs.declared.Refusal.{Refusal}
+use Rattle.sector.specs.declared.Refusal.TheVariants.{Stopped}
 use Rattle.sector.specs.declared.EntryMapState.{EntryMapState}
 use Rattle.sector.specs.declared.EntryMapState.TheVariants.{Empty, Written, Erased, Illegal}
 use Rattle.sector.specs.Layout.{sector_size, entries_per_page, entry_size, items_offset, entry_address, number, little_endian, field, same_bytes, entry_at, chunks, entries_of}
-use Rattle.sector.specs.Answers.{Check, number_of, refusal, accepted}
+use Rattle.sector.specs.Answers.{Answer, Done, Check, refusal, accepted}
 use Rattle.sector.specs.Map.{bits_of, state_at, unpack, states_of, count_in, statistics, mark, mark_range}
 use Rattle.sector.specs.Item.{item_bytes, sized_data}
 
@@ -134,20 +135,11 @@ over_both out first second n e h =
 
 -- ---- checks
 
-abbrev pub is_done : Answer → Bool
-is_done answer = eqb (number_of answer) 0
-
--- a check whose answer, where it refuses, is not Done
-abbrev pub refuses : Check → Bool
-refuses check = not (is_done check.1)
-
--- a list of such checks accepts where its refusal is Done, and only there
-pub accepted_refusal : (checks : List Check) → every refuses checks ≡ true → accepted checks ≡ is_done (refusal checks)
-accepted_refusal [] h = refl
-accepted_refusal ((true, answer) ∷ checks) h =
-    sym (not-true (is_done answer) ((and-eq-true_iff (refuses (true, answer)) (every refuses checks)).0 h).0)
-accepted_refusal ((false, answer) ∷ checks) h =
-    accepted_refusal checks ((and-eq-true_iff (refuses (false, answer)) (every refuses checks)).0 h).1
+-- a list of checks accepts where its refusal is Done, and only there
+pub accepted_refusal : (checks : List Check) → accepted checks ≡ is_ok (refusal checks)
+accepted_refusal [] = refl
+accepted_refusal ((true, refused) ∷ checks) = refl
+accepted_refusal ((false, refused) ∷ checks) = accepted_refusal checks
 
 -- checks and then others
 pub accepted_append : (xs ys : List Check) → accepted (xs ++ ys) ≡ (accepted xs && accepted ys)
@@ -161,10 +153,12 @@ refusal_append [] ys = refl
 refusal_append ((true, answer) ∷ xs) ys = refl
 refusal_append ((false, answer) ∷ xs) ys = refusal_append xs ys
 
--- of an answer in hand, and of its test
-pub accepted_done : (checks : List Check) → every refuses checks ≡ true → {answer : Answer} {done : Bool}
-    → answer ≡ refusal checks → done ≡ is_done answer → accepted checks ≡ done
-accepted_done checks h e d = accepted_refusal checks h ∙ sym (d ∙ ap is_done e)
+-- of an answer in hand that is done, and of one that is a refusal
+pub accepted_done : (checks : List Check) {answer : Answer} → answer ≡ refusal checks → is_ok answer ≡ true → accepted checks ≡ true
+accepted_done checks e done = accepted_refusal checks ∙ ap is_ok (sym e) ∙ done
+
+pub accepted_refused : (checks : List Check) {answer : Answer} → answer ≡ refusal checks → is_ok answer ≡ false → accepted checks ≡ false
+accepted_refused checks e refused = accepted_refusal checks ∙ ap is_ok (sym e) ∙ refused
 
 -- a refusal in front is that of all
 pub refusal_refused : (xs ys : List Check) {answer : Answer} → accepted xs ≡ false → answer ≡ refusal xs → answer ≡ refusal (xs ++ ys)
@@ -174,11 +168,11 @@ refusal_refused xs ys refused e = e ∙ sym (refusal_append xs ys ∙ rw refused
 pub refusal_passed : (xs ys : List Check) {answer : Answer} → accepted xs ≡ true → answer ≡ refusal ys → answer ≡ refusal (xs ++ ys)
 refusal_passed xs ys passed e = e ∙ sym (refusal_append xs ys ∙ rw passed)
 
-pub accepted_head : (test : Bool) (answer : Answer) (checks : List Check) → accepted ((test, answer) ∷ checks) ≡ true → test ≡ false
+pub accepted_head : (test : Bool) (answer : Refusal) (checks : List Check) → accepted ((test, answer) ∷ checks) ≡ true → test ≡ false
 accepted_head true answer checks h = sym h
 accepted_head false answer checks h = refl
 
-pub accepted_tail : (test : Bool) (answer : Answer) (checks : List Check) → accepted ((test, answer) ∷ checks) ≡ true → accepted checks ≡ true
+pub accepted_tail : (test : Bool) (answer : Refusal) (checks : List Check) → accepted ((test, answer) ∷ checks) ≡ true → accepted checks ≡ true
 accepted_tail true answer checks h = absurd (false≢true h)
 accepted_tail false answer checks h = h
 
@@ -188,7 +182,7 @@ refusal_accepted ((true, answer) ∷ checks) h = absurd (false≢true h)
 refusal_accepted ((false, answer) ∷ checks) h = refusal_accepted checks h
 
 -- no check of an accepted list refuses
-pub accepted_at : (checks : List Check) (n : ℕ) → accepted checks ≡ true → (get_or checks n (false, Done)).0 ≡ false
+pub accepted_at : (checks : List Check) (n : ℕ) → accepted checks ≡ true → (get_or checks n (false, Stopped)).0 ≡ false
 accepted_at [] n h = refl
 accepted_at ((true, answer) ∷ checks) n h = absurd (false≢true h)
 accepted_at ((false, answer) ∷ checks) zero h = refl

@@ -3,11 +3,10 @@
 -- In order: the public functions of this crate, by what their callers learn; the codings that tell answers, states and types apart.
 use mathlib.Core.Path.{◌≡◌, sym, ap, ap₂, ◌∙◌}
 pub use Rattle.crc.proofs.Unique.{OneResult, OneOutcome, unique}
-use Rattle.sector.specs.declared.Answer.{Answer}
 use Rattle.sector.specs.declared.EntryMapState.{EntryMapState}
 use Rattle.sector.specs.declared.ItemType.{ItemType}
 use Rattle.sector.specs.declared.PageState.{PageState}
-use Rattle.sector.specs.Answers.{number_of, carried_byte, answer_of, answer_number}
+use Rattle.sector.specs.Answers.{Answer, number_of, carried_byte, answer_of, answer_number}
 use Rattle.sector.proofs.StateBits.{state_bits}
 use Rattle.sector.specs.Map.{bits_of, state_of_bits}
 use Rattle.sector.specs.Types.{byte_of, item_type, type_byte_lem}

@@ -1,73 +1,92 @@
 -- What a call answers (01, 'Numbers that come back'): its number, and the byte that it carries.
 --
--- In order: the answers, by their numbers and the byte carried, which tell every answer apart; checks in 01's order.
-use Rattle.std.specs.Prelude.{◌≡◌, refl, Bool, true, false, cond, List, [], ◌∷◌, ℕ, get_or}
-use Rattle.sector.specs.declared.Answer.{Answer}
-use Rattle.sector.specs.declared.Answer.TheVariants.{Done, BadImage, BadRecord, WrongState, BadRequest, ValueTooLong, PageFull, KeyNotFound, ItemTypeMismatch, CorruptedData, NotWritten, Stopped}
+-- In order: the answers, by their numbers and the byte carried, which tell every answer apart; an answer with a value; checks in 01's order.
+use Rattle.std.specs.Prelude.{◌≡◌, refl, Bool, true, false, cond, List, [], ◌∷◌, ℕ, get_or, Result, Ok, Err}
+use Rattle.sector.specs.declared.Refusal.{Refusal}
+use Rattle.sector.specs.declared.Refusal.TheVariants.{BadImage, BadRecord, WrongState, BadRequest, ValueTooLong, PageFull, KeyNotFound, ItemTypeMismatch, CorruptedData, NotWritten, Stopped}
 
 -- ---- the answers
 
+-- done, or a refusal
+abbrev pub Answer : Type 0
+Answer = Result Unit Refusal
+
+-- no check refuses, and the call was not told to stop before its end
+abbrev pub Done : Answer
+Done = Ok tt
+
+abbrev pub refusal_number : Refusal → ℕ
+refusal_number BadImage = 1
+refusal_number BadRecord = 2
+refusal_number WrongState = 3
+refusal_number BadRequest = 4
+refusal_number ValueTooLong = 5
+refusal_number PageFull = 6
+refusal_number KeyNotFound = 7
+refusal_number (ItemTypeMismatch byte) = 8
+refusal_number CorruptedData = 9
+refusal_number NotWritten = 10
+refusal_number Stopped = 11
+
 abbrev pub number_of : Answer → ℕ
-number_of Done = 0
-number_of BadImage = 1
-number_of BadRecord = 2
-number_of WrongState = 3
-number_of BadRequest = 4
-number_of ValueTooLong = 5
-number_of PageFull = 6
-number_of KeyNotFound = 7
-number_of (ItemTypeMismatch byte) = 8
-number_of CorruptedData = 9
-number_of NotWritten = 10
-number_of Stopped = 11
+number_of (Ok done) = 0
+number_of (Err refused) = refusal_number refused
 
 -- the type byte, of 8; 0 of any other
+abbrev pub refusal_byte : Refusal → ℕ
+refusal_byte BadImage = 0
+refusal_byte BadRecord = 0
+refusal_byte WrongState = 0
+refusal_byte BadRequest = 0
+refusal_byte ValueTooLong = 0
+refusal_byte PageFull = 0
+refusal_byte KeyNotFound = 0
+refusal_byte (ItemTypeMismatch byte) = byte
+refusal_byte CorruptedData = 0
+refusal_byte NotWritten = 0
+refusal_byte Stopped = 0
+
 abbrev pub carried_byte : Answer → ℕ
-carried_byte Done = 0
-carried_byte BadImage = 0
-carried_byte BadRecord = 0
-carried_byte WrongState = 0
-carried_byte BadRequest = 0
-carried_byte ValueTooLong = 0
-carried_byte PageFull = 0
-carried_byte KeyNotFound = 0
-carried_byte (ItemTypeMismatch byte) = byte
-carried_byte CorruptedData = 0
-carried_byte NotWritten = 0
-carried_byte Stopped = 0
+carried_byte (Ok done) = 0
+carried_byte (Err refused) = refusal_byte refused
 
 -- the answer that a number and a byte stand for
 abbrev pub answer_of : ℕ → ℕ → Answer
 answer_of n byte =
     get_or
-    (Done ∷ BadImage ∷ BadRecord ∷ WrongState ∷ BadRequest ∷ ValueTooLong ∷ PageFull ∷ KeyNotFound ∷ ItemTypeMismatch byte ∷ CorruptedData ∷ NotWritten ∷ [])
-    n Stopped
+    (Done ∷ Err BadImage ∷ Err BadRecord ∷ Err WrongState ∷ Err BadRequest ∷ Err ValueTooLong ∷ Err PageFull ∷ Err KeyNotFound ∷ Err (ItemTypeMismatch byte) ∷ Err CorruptedData ∷ Err NotWritten ∷ [])
+    n (Err Stopped)
 
 -- number and byte tell every answer apart
 pub answer_number : (a : Answer) → answer_of (number_of a) (carried_byte a) ≡ a
-answer_number Done = refl
-answer_number BadImage = refl
-answer_number BadRecord = refl
-answer_number WrongState = refl
-answer_number BadRequest = refl
-answer_number ValueTooLong = refl
-answer_number PageFull = refl
-answer_number KeyNotFound = refl
-answer_number (ItemTypeMismatch byte) = refl
-answer_number CorruptedData = refl
-answer_number NotWritten = refl
-answer_number Stopped = refl
+answer_number (Ok done) = refl
+answer_number (Err BadImage) = refl
+answer_number (Err BadRecord) = refl
+answer_number (Err WrongState) = refl
+answer_number (Err BadRequest) = refl
+answer_number (Err ValueTooLong) = refl
+answer_number (Err PageFull) = refl
+answer_number (Err KeyNotFound) = refl
+answer_number (Err (ItemTypeMismatch byte)) = refl
+answer_number (Err CorruptedData) = refl
+answer_number (Err NotWritten) = refl
+answer_number (Err Stopped) = refl
+
+-- a value where the answer is Done, else the refusal alone
+abbrev pub value_where_done : {A : Type 0} → Answer → A → Result A Refusal
+value_where_done (Ok done) value = Ok value
+value_where_done (Err refused) value = Err refused
 
 -- ---- checks
 
 -- whether a check refuses, and what it then answers
 abbrev pub Check : Type 0
-Check = Bool × Answer
+Check = Bool × Refusal
 
 -- the first check that refuses, in order; Done where none does
 abbrev pub refusal : List Check → Answer
 refusal [] = Done
-refusal (check ∷ checks) = cond check.0 check.1 (refusal checks)
+refusal (check ∷ checks) = cond check.0 (Err check.1) (refusal checks)
 
 -- no check refuses
 abbrev pub accepted : List Check → Bool

@@ -1,13 +1,13 @@
 -- The entry map (01, 'The sector'): two bits an entry, entry i at bit 2 * (i mod 4) of map byte i / 4.
 --
 -- In order: the states and their bits; the state of an entry; all 126 states; what `get_entry_state` and `get_entry_statistics` answer; setting a range.
-use Rattle.std.specs.Prelude.{Bool, cond, List, [], ◌∷◌, ℕ, zero, suc, ◌+◌, ◌-◌, ◌*◌, ◌/◌, ◌%◌, ◌^◌, eqb, ltb, take, get_or, set}
+use Rattle.std.specs.Prelude.{Bool, cond, List, [], ◌∷◌, ℕ, zero, suc, ◌+◌, ◌-◌, ◌*◌, ◌/◌, ◌%◌, ◌^◌, eqb, ltb, take, get_or, set, Err}
 use Rattle.std.specs.Int.Bits.{bit_and}
 use Rattle.flash.specs.Flash.{Unit4, units}
-use Rattle.sector.specs.declared.Answer.TheVariants.{Done, CorruptedData}
+use Rattle.sector.specs.Answers.{Answer, Done}
 use Rattle.sector.specs.declared.EntryMapState.{EntryMapState}
 use Rattle.sector.specs.declared.EntryMapState.TheVariants.{Empty, Written, Erased, Illegal}
-use Rattle.sector.specs.declared.StateAnswer.{StateAnswer}
+use Rattle.sector.specs.declared.Refusal.TheVariants.{CorruptedData}
 use Rattle.sector.specs.declared.Statistics.{Statistics}
 use Rattle.sector.specs.Layout.{entries_per_page, map_offset, field}
 
@@ -33,12 +33,17 @@ entry_bits map i = get_or map (i / 4) 0 / 4 ^ (i % 4) % 4
 abbrev pub state_at : List ℕ → ℕ → EntryMapState
 state_at map i = state_of_bits (entry_bits map i)
 
+-- what `get_entry_state` answers; the state is Erased, whose bits are 0, where that is not Done
+pub record StateAnswer : Type 0 where
+  pub answer : Answer
+  pub state : EntryMapState
+
 -- an index over 125 is CorruptedData: the last byte's top four bits belong to no entry
 unfoldable pub entry_state : List ℕ → ℕ → StateAnswer
 entry_state map i =
     cond (ltb i entries_per_page)
     (record { answer = Done; state = state_at map i })
-    (record { answer = CorruptedData; state = Erased })
+    (record { answer = Err CorruptedData; state = Erased })
 
 -- ---- all states
 

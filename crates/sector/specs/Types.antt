@@ -1,12 +1,12 @@
 -- Item types (01, 'The sector' and 'Type byte').
 --
 -- In order: the thirteen types and their bytes; what a byte decides; a primitive's width as an answer.
-use Rattle.std.specs.Prelude.{◌≡◌, refl, Bool, true, false, cond, List, [], ◌∷◌, ℕ, eqb}
-use Rattle.sector.specs.declared.Answer.TheVariants.{Done, ItemTypeMismatch}
+use Rattle.std.specs.Prelude.{◌≡◌, refl, Bool, true, false, cond, List, [], ◌∷◌, ℕ, eqb, Err}
+use Rattle.sector.specs.Answers.{Answer, Done}
 use Rattle.sector.specs.declared.ItemType.{ItemType}
 use Rattle.sector.specs.declared.ItemType.TheVariants.{U8, I8, U16, I16, U32, I32, U64, I64, Sized, Blob, BlobData, BlobIndex, Any}
 use Rattle.sector.specs.declared.Kind.{Kind}
-use Rattle.sector.specs.declared.WidthAnswer.{WidthAnswer}
+use Rattle.sector.specs.declared.Refusal.TheVariants.{ItemTypeMismatch}
 
 abbrev pub byte_of : ItemType → ℕ
 byte_of U8 = 0x01
@@ -97,9 +97,14 @@ has_payload Any = false
 unfoldable pub kind_of : ℕ → Kind
 kind_of byte = record { named = item_type byte; width = width_of (item_type byte); payload = has_payload (item_type byte) }
 
+-- what `get_primitive_bytes_width` answers; the width is 0 where that is not Done
+pub record WidthAnswer : Type 0 where
+  pub answer : Answer
+  pub width : ℕ
+
 -- types other than the primitives are ItemTypeMismatch, with the byte as loaded
 unfoldable pub primitive_width : ℕ → WidthAnswer
 primitive_width byte =
     cond (eqb (width_of (item_type byte)) 0)
-    (record { answer = ItemTypeMismatch (type_byte byte); width = 0 })
+    (record { answer = Err (ItemTypeMismatch (type_byte byte)); width = 0 })
     (record { answer = Done; width = width_of (item_type byte) })

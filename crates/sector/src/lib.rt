@@ -39,7 +39,7 @@ pub const PAGE_STATE_FREEING: u32 = 0xFFFFFFF8;
 pub const PAGE_STATE_INVALID: u32 = 0;
 
 // What a page is for; Corrupt also for any word that is none of these.
-#[derive(Clone, Copy)]
+#[derive(Clone, Copy, PartialEq, Eq)]
 pub enum PageState {
     Uninitialized,
     Active,
@@ -50,7 +50,7 @@ pub enum PageState {
 }
 
 // The two bits of an entry in the map.
-#[derive(Clone, Copy)]
+#[derive(Clone, Copy, PartialEq, Eq)]
 pub enum EntryMapState {
     Empty,
     Written,
@@ -59,7 +59,7 @@ pub enum EntryMapState {
 }
 
 // The thirteen types. Any also stands for a byte that is none of them.
-#[derive(Clone, Copy)]
+#[derive(Clone, Copy, PartialEq, Eq)]
 pub enum ItemType {
     U8,
     I8,
@@ -85,10 +85,9 @@ pub struct Kind {
     pub payload: bool,
 }
 
-// What a call answers; `number_of` of specs/ has document 01's numbers.
-#[derive(Clone, Copy)]
-pub enum Answer {
-    Done,
+// Why a call refuses, or that it was told to stop: `refusal_number` of specs/ has document 01's numbers.
+#[derive(Clone, Copy, PartialEq, Eq)]
+pub enum Refusal {
     // The image is not 4,096 bytes.
     BadImage,
     // The record is not fit to use.
@@ -111,20 +110,6 @@ pub enum Answer {
     NotWritten,
     // The call was told to stop before its last unit, and did.
     Stopped,
-}
-
-// A primitive's width; 0 where the answer is not Done.
-#[derive(Clone, Copy)]
-pub struct WidthAnswer {
-    pub answer: Answer,
-    pub width: u8,
-}
-
-// An entry's state; Erased, whose bits are 0, where the answer is not Done.
-#[derive(Clone, Copy)]
-pub struct StateAnswer {
-    pub answer: Answer,
-    pub state: EntryMapState,
 }
 
 // How many of the 126 entries are in each state.
