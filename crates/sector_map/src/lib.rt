@@ -2,12 +2,13 @@
 #![tactic(auto)]
 
 ghost use Rattle.std.specs.Prelude.{◌≡◌, ◌+◌, ◌/◌, ◌%◌, ◌^◌, ◌<◌, ◌≤◌, length};
+ghost use Rattle.sector.specs.Answers.{value_where_done};
 ghost use Rattle.sector.specs.declared.EntryMapState.TheVariants.{Written};
 ghost use Rattle.sector.specs.Map.{bits_of, state_of_bits, same_state, state_at, unpack, entry_state, statistics, mark_mask, mark_range};
 ghost use Rattle.sector.specs.Layout.{number, field};
 ghost use Rattle.sector_map.specs.Words.{word_states, word_statistics};
 
-use sector::{Answer, ENTRIES_PER_PAGE, EntryMapState, StateAnswer, Statistics, bytes};
+use sector::{ENTRIES_PER_PAGE, EntryMapState, Refusal, Statistics, bytes};
 
 // One bit for each of the 32 entries of a map word, at the place of its lower bit.
 const MASK: u64 = 0x5555_5555_5555_5555;
@@ -31,12 +32,7 @@ pub fn bits_of(state: EntryMapState) -> u8
 pub fn is_written(state: EntryMapState) -> bool
     ensures { result ≡ same_state Written state }
 {
-    match state {
-        EntryMapState::Empty => false,
-        EntryMapState::Written => true,
-        EntryMapState::Erased => false,
-        EntryMapState::Illegal => false,
-    }
+    matches!(state, EntryMapState::Written)
 }
 
 // The state in one of the four pairs of a map byte, the lowest first.
@@ -64,20 +60,13 @@ pub fn state_at(map: [u8; 32], index: usize) -> EntryMapState
 //
 // An index over 125 is CorruptedData. The Rust does not check it: at 126 and 127 it reads the last byte's top
 // four bits, which belong to no entry, and from 128 on there is no byte.
-pub fn get_entry_state(map: [u8; 32], index: usize) -> StateAnswer
-    ensures { result ≡ entry_state map index }
+pub fn get_entry_state(map: [u8; 32], index: usize) -> Result<EntryMapState, Refusal>
+    ensures { result ≡ value_where_done (entry_state map index).answer (entry_state map index).state }
 {
     if index >= ENTRIES_PER_PAGE {
-        return StateAnswer {
-            answer: Answer::CorruptedData,
-            state: EntryMapState::Erased,
-        };
+        return Err(Refusal::CorruptedData);
     }
-    let state = state_at(map, index);
-    StateAnswer {
-        answer: Answer::Done,
-        state,
-    }
+    Ok(state_at(map, index))
 }
 
 // The eight map bytes from an offset on as one word, which holds their 32 entries.

@@ -2,9 +2,10 @@
 #![tactic(auto)]
 
 ghost use Rattle.std.specs.Prelude.{◌≡◌};
+ghost use Rattle.sector.specs.Answers.{value_where_done};
 ghost use Rattle.sector.specs.Types.{byte_of, kind_of, type_byte, is_known, primitive_width};
 
-use sector::{Answer, ItemType, Kind, WidthAnswer};
+use sector::{ItemType, Kind, Refusal};
 
 fn decided(named: ItemType, width: u8, payload: bool) -> Kind
     ensures { result ≡ record { named = named; width = width; payload = payload } }
@@ -62,9 +63,7 @@ fn byte_of(named: ItemType) -> u8
 pub fn type_byte(byte: u8) -> u8
     ensures { result ≡ type_byte byte }
 {
-    let kind = kind_of(byte);
-    let named = kind.named;
-    byte_of(named)
+    byte_of(kind_of(byte).named)
 }
 
 // Whether a byte is one of the thirteen. The Rust does not ask: `load_item` takes any other byte as 0xFF.
@@ -78,19 +77,12 @@ pub fn is_known(byte: u8) -> bool
 //
 // Any other type is ItemTypeMismatch, with its byte: 0xFF for one that is none of the thirteen. The Rust is
 // handed the type and not its byte.
-pub fn get_primitive_bytes_width(byte: u8) -> WidthAnswer
-    ensures { result ≡ primitive_width byte }
+pub fn get_primitive_bytes_width(byte: u8) -> Result<u8, Refusal>
+    ensures { result ≡ value_where_done (primitive_width byte).answer (primitive_width byte).width }
 {
-    let kind = kind_of(byte);
-    let width = kind.width;
+    let width = kind_of(byte).width;
     if width == 0 {
-        return WidthAnswer {
-            answer: Answer::ItemTypeMismatch(type_byte(byte)),
-            width: 0,
-        };
+        return Err(Refusal::ItemTypeMismatch(type_byte(byte)));
     }
-    WidthAnswer {
-        answer: Answer::Done,
-        width,
-    }
+    Ok(width)
 }

@@ -1,9 +1,9 @@
 -- `sector_map::get_entry_state` meets its contract: the test is that of `entry_state`.
 use mathlib.Core.Path.{ap}
 use borrow.Author.Tests.{le-ltb, lt-ltb}
-use Rattle.sector.specs.declared.Answer.TheVariants.{Done}
+use Rattle.std.specs.Prelude.{Result, Ok}
 use Rattle.sector.specs.declared.EntryMapState.{EntryMapState}
-use Rattle.sector.specs.declared.StateAnswer.{StateAnswer}
+use Rattle.sector.specs.declared.Refusal.{Refusal}
 use Rattle.sector.specs.Map.{entry_state}
 use Rattle.sector_map.proofs.get_entry_state.Goals as goal
 
@@ -16,4 +16,4 @@ pub returns : goal.returns
 unfolding entry_state
 returns c =
     rw (lt-ltb _ 126 c.if-index-ge-ENTRIES_PER_PAGE.false)
-    (ap {B = StateAnswer} (λ (s : EntryMapState). record { answer = Done; state = s }) c.state_at-state.ensures)
+    (ap {B = Result EntryMapState Refusal} (λ (s : EntryMapState). Ok s) c.state_at.ensures)

@@ -7,4 +7,4 @@ use Rattle.sector_types.proofs.type_byte.Goals as goal
 pub returns : goal.returns
 unfolding kind_of
 returns c =
-    c.byte_of.ensures ∙ ap (λ (kind : Kind). byte_of kind.named) c.kind_of-kind.ensures
+    c.byte_of.ensures ∙ ap (λ (kind : Kind). byte_of kind.named) c.kind_of.ensures
