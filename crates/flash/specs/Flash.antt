@@ -4,6 +4,7 @@
 -- and cuts of a plan, with two statements on them (proved in proofs/Cuts).
 -- A power cut after n units of a plan, and a call told to stop after n, leave `run (take n plan) image`.
 -- Assumes that a unit is done or not, which is the flash's part.
+use Rattle.std.specs.List.{list_all}
 use Rattle.std.specs.Prelude.{◌≡◌, Bool, true, ◌&&◌, cond, List, [], ◌∷◌, ℕ, zero, suc, ◌+◌, eqb, take}
 use Rattle.std.specs.Int.Bits.{bit_and}
 
@@ -11,8 +12,7 @@ use Rattle.std.specs.Int.Bits.{bit_and}
 
 -- each element passes; true of an empty list
 abbrev pub every : {A : Type 0} → (A → Bool) → List A → Bool
-every test [] = true
-every test (x ∷ xs) = test x && every test xs
+every = list_all
 
 -- the state of an erased byte
 abbrev pub is_ones : ℕ → Bool

@@ -8,14 +8,13 @@ use lib.Dec.{ltb}
 use lib.ListN.{length, take}
 use borrow.Author.Tests.{eqb-true, ltb-false, not-false}
 use Rattle.flash.specs.Flash.{Unit4, run}
-use Rattle.sector.specs.declared.Answer.{Answer}
-use Rattle.sector.specs.declared.Answer.TheVariants.{Done, BadImage, BadRecord, WrongState, PageFull, Stopped}
-use Rattle.sector.specs.Answers.{Check, refusal, accepted}
+use Rattle.std.specs.Prelude.{Err}
+use Rattle.sector.specs.declared.Refusal.TheVariants.{BadImage, BadRecord, WrongState, PageFull, Stopped}
+use Rattle.sector.specs.Answers.{Answer, Done, Check, refusal, accepted}
 use Rattle.sector.specs.Layout.{sector_size, entries_per_page}
 use Rattle.sector.proofs.Laws.{accepted_head, accepted_tail}
-use Rattle.page.specs.declared.Outcome.{Outcome}
 use Rattle.page.specs.Record.{Page, next_free, free, fit_to_use}
-use Rattle.page.specs.Writing.{bad_image, bad_record, over_free, answered, outcome, image_after, stops}
+use Rattle.page.specs.Writing.{Outcome, bad_image, bad_record, over_free, answered, outcome, image_after, stops}
 
 -- ---- what accepted checks tell
 
@@ -64,7 +63,7 @@ module _ (checks : List Check) (page new : Page) (image : List ℕ) where
   -- where no check refuses
   pub call_ended : (n : ℕ) (plan : List Unit4) {total : ℕ} {made : Page} {after : List ℕ} {result : Outcome} → accepted checks ≡ true
       → total ≡ length plan → made ≡ new → after ≡ run (take n plan) image
-      → result ≡ cond (ltb n total) (answered Stopped page) (answered Done made)
+      → result ≡ cond (ltb n total) (answered (Err Stopped) page) (answered Done made)
       → (result ≡ outcome checks (stops n plan) page new) × (after ≡ image_after checks (take n plan) image)
   call_ended n plan passed e m run_to r = rw passed (r ∙ rw (e, m), run_to)
 

@@ -2,17 +2,15 @@
 --
 -- In order: the checks that calls share; what a call hands back and what it leaves in the image; the plan of an item.
 -- 1 to 10 change nothing; 11 leaves the first n units programmed and hands back the incoming record.
-use Rattle.std.specs.Prelude.{Bool, not, cond, List, [], ◌++◌, ℕ, ◌+◌, eqb, ltb, length}
+use Rattle.std.specs.Prelude.{Bool, not, cond, List, [], ◌++◌, ℕ, ◌+◌, eqb, ltb, length, Err}
 use Rattle.flash.specs.Flash.{Unit4, units, run}
-use Rattle.sector.specs.declared.Answer.{Answer}
-use Rattle.sector.specs.declared.Answer.TheVariants.{Done, BadImage, BadRecord, WrongState, PageFull, Stopped}
+use Rattle.sector.specs.declared.Refusal.TheVariants.{BadImage, BadRecord, WrongState, PageFull, Stopped}
 use Rattle.sector.specs.declared.EntryMapState.TheVariants.{Written}
 use Rattle.sector.specs.declared.PageState.TheVariants.{Full}
-use Rattle.sector.specs.Answers.{Check, refusal, accepted}
+use Rattle.sector.specs.Answers.{Answer, Done, Check, refusal, accepted}
 use Rattle.sector.specs.Header.{state_bytes, is_active}
 use Rattle.sector.specs.Layout.{sector_size, entries_per_page}
 use Rattle.sector.specs.Map.{mark_range, map_units}
-use Rattle.page.specs.declared.Outcome.{Outcome}
 use Rattle.page.specs.Record.{Page, fit_to_use, free}
 
 -- ---- checks
@@ -35,13 +33,19 @@ over_free page span = (ltb (free page) span, PageFull)
 
 -- ---- a call's result
 
+-- what a call answers, and the record that it leaves: on a refusal the incoming one; on Stopped too, and then it no longer tells
+-- what the sector holds: such a page is good for opening only
+pub record Outcome : Type 0 where
+  pub answer : Answer
+  pub page : Page
+
 abbrev pub answered : Answer → Page → Outcome
 answered answer page = record { answer = answer; page = page }
 
 -- the first refusal, or Stopped, with the incoming record; else Done with the new one
 abbrev pub outcome : List Check → Bool → Page → Page → Outcome
 outcome checks stopped page new =
-    cond (accepted checks) (cond stopped (answered Stopped page) (answered Done new)) (answered (refusal checks) page)
+    cond (accepted checks) (cond stopped (answered (Err Stopped) page) (answered Done new)) (answered (refusal checks) page)
 
 -- units are programmed where no check refuses
 abbrev pub image_after : List Check → List Unit4 → List ℕ → List ℕ

@@ -1,126 +1,79 @@
 // Whether a record is fit to use: a function for each clause, in the order of document 01.
-ghost use Rattle.std.specs.Prelude.{◌≡◌, ◌≤◌, take, drop};
-ghost use Rattle.flash.specs.Flash.{every, all_ones};
-ghost use Rattle.page.specs.Record.{place_fits, place_zero, is_blank, blank_fits, fit_to_use};
+ghost use Rattle.std.specs.Prelude.{◌≡◌, ◌≤◌};
+ghost use Rattle.page.specs.Record.{place_fits, place_zero, listed_fit, behind_zero, is_blank, blank_fits, fit_to_use};
 
 use crate::{Listed, ThinPage};
-use sector::{ENTRIES_PER_PAGE, states};
+use sector::ENTRIES_PER_PAGE;
 
-// The place names an entry, and its hash has 24 bits.
-fn place_fits(place: Listed) -> bool
-    ensures { result ≡ place_fits place }
-{
-    if place.index >= 126 {
-        return false;
+impl Listed {
+    // The place names an entry, and its hash has 24 bits.
+    fn fits(&self) -> bool
+        ensures { result ≡ place_fits self.now }
+    {
+        self.index < 126 && self.hash < 0x1000000
     }
-    place.hash < 0x1000000
+
+    fn is_zero(&self) -> bool
+        ensures { result ≡ place_zero self.now }
+    {
+        self.index == 0 && self.hash == 0
+    }
 }
 
-fn place_zero(place: Listed) -> bool
-    ensures { result ≡ place_zero place }
-{
-    if place.index != 0 {
-        return false;
+impl ThinPage {
+    // Each place in use fits.
+    fn listed_fit(&self) -> bool
+        requires { self.now.len ≤ 126 }
+        ensures { result ≡ listed_fit self.now }
+    {
+        self.list[..self.len as usize]
+            .iter()
+            .all(|place| place.fits())
     }
-    place.hash == 0
-}
 
-// Each place in use fits.
-fn listed_fit(list: [Listed; 126], len: usize) -> bool
-    requires { len ≤ 126 }
-    ensures { result ≡ every place_fits (take len list) }
-{
-    for k in 0..len {
-        let place = list[k];
-        if !place_fits(place) {
-            return false;
-        }
+    // Each place after those is zero.
+    fn behind_zero(&self) -> bool
+        requires { self.now.len ≤ 126 }
+        ensures { result ≡ behind_zero self.now }
+    {
+        self.list
+            .iter()
+            .skip(self.len as usize)
+            .all(|place| place.is_zero())
     }
-    true
-}
 
-// Each place after those is zero.
-fn behind_zero(list: [Listed; 126], len: usize) -> bool
-    requires { len ≤ 126 }
-    ensures { result ≡ every place_zero (drop len list) }
-{
-    for k in len..126usize {
-        let place = list[k];
-        if !place_zero(place) {
-            return false;
-        }
+    // Counts, sequence, version and header CRC are 0, the list is empty, the map is all 0xFF.
+    fn is_blank(&self) -> bool
+        ensures { result ≡ is_blank self.now }
+    {
+        self.used == 0
+            && self.erased == 0
+            && self.sequence == 0
+            && self.version == 0
+            && self.crc == 0
+            && self.len == 0
+            && flash::all_ones(&self.map)
     }
-    true
-}
 
-fn map_is_blank(map: [u8; 32]) -> bool
-    ensures { result ≡ all_ones map }
-{
-    flash::all_ones(&map)
-}
+    // An Uninitialized record is blank.
+    fn blank_fits(&self) -> bool
+        ensures { result ≡ blank_fits self.now }
+    {
+        !sector::states::is_uninitialized(self.state) || self.is_blank()
+    }
 
-// Counts, sequence, version and header CRC are 0, the list is empty, the map is all 0xFF.
-fn is_blank(page: ThinPage) -> bool
-    ensures { result ≡ is_blank page }
-{
-    if page.used != 0 {
-        return false;
+    // Whether a record is fit to use: each writing call refuses one that is not (BadRecord), and leaves one that is.
+    //
+    // The Rust has no such check: its records are private, and the functions that make them are trusted.
+    pub fn fit_to_use(&self) -> bool
+        ensures { result ≡ fit_to_use self.now }
+    {
+        let next_free = self.get_next_free_entry();
+        next_free <= ENTRIES_PER_PAGE
+            && self.len as usize <= next_free
+            && sector_map::get_entry_statistics(self.map).written <= self.used as u32
+            && self.listed_fit()
+            && self.behind_zero()
+            && self.blank_fits()
     }
-    if page.erased != 0 {
-        return false;
-    }
-    if page.sequence != 0 {
-        return false;
-    }
-    if page.version != 0 {
-        return false;
-    }
-    if page.crc != 0 {
-        return false;
-    }
-    if page.len != 0 {
-        return false;
-    }
-    let map = page.map;
-    map_is_blank(map)
-}
-
-// An Uninitialized record is blank.
-fn blank_fits(page: ThinPage) -> bool
-    ensures { result ≡ blank_fits page }
-{
-    let state = page.state;
-    if !states::is_uninitialized(state) {
-        return true;
-    }
-    is_blank(page)
-}
-
-// Whether a record is fit to use: each writing call refuses one that is not (BadRecord), and hands back
-// one that is.
-//
-// The Rust has no such check: its records are private, and the functions that make them are trusted.
-pub fn fit_to_use(page: ThinPage) -> bool
-    ensures { result ≡ fit_to_use page }
-{
-    let next_free = page.used as usize + page.erased as usize;
-    if next_free > ENTRIES_PER_PAGE {
-        return false;
-    }
-    let len = page.len as usize;
-    if len > next_free {
-        return false;
-    }
-    let map = page.map;
-    if sector_map::get_entry_statistics(map).written > page.used as u32 {
-        return false;
-    }
-    let list = page.list;
-    if !listed_fit(list, len) {
-        return false;
-    }
-    if !behind_zero(list, len) {
-        return false;
-    }
-    blank_fits(page)
 }

@@ -1,12 +1,15 @@
-// The record of a page (page.rs, ThinPage), by value, whether it is fit to use, and what the writing calls share.
+// The record of a page (page.rs, ThinPage), whether it is fit to use, and what it tells of the page's entries.
 #![tactic(auto)]
 
-pub mod fit;
+ghost use Rattle.std.specs.Prelude.{◌≡◌};
+ghost use Rattle.page.specs.Record.{no_item, next_free, free, uninitialized};
 
-use sector::{Answer, PageState};
+mod fit;
+
+use sector::{ENTRIES_PER_PAGE, PageState};
 
 // An item outside namespace 0: its hash and its entry's index.
-#[derive(Clone, Copy)]
+#[derive(Clone, Copy, PartialEq, Eq)]
 pub struct Listed {
     pub hash: u32,
     pub index: u8,
@@ -26,10 +29,44 @@ pub struct ThinPage {
     pub list: [Listed; 126],
 }
 
-// What a writing call hands back. On a refusal the record is the incoming one; on Stopped too, and
-// then it no longer tells what the sector holds: such a page is good for opening only.
-#[derive(Clone, Copy)]
-pub struct Outcome {
-    pub answer: Answer,
-    pub page: ThinPage,
+impl Listed {
+    // A place that is not in use.
+    pub fn none() -> Listed
+        ensures { result ≡ no_item }
+    {
+        Listed { hash: 0, index: 0 }
+    }
+}
+
+impl ThinPage {
+    // The record of a page whose bytes are all 0xFF.
+    pub fn uninitialized() -> ThinPage
+        ensures { result ≡ uninitialized }
+    {
+        ThinPage {
+            state: PageState::Uninitialized,
+            sequence: 0,
+            version: 0,
+            crc: 0,
+            map: [0xFF; 32],
+            used: 0,
+            erased: 0,
+            len: 0,
+            list: [Listed::none(); 126],
+        }
+    }
+
+    // The first entry after those that are used or erased.
+    pub fn get_next_free_entry(&self) -> usize
+        ensures { result ≡ next_free self.now }
+    {
+        self.used as usize + self.erased as usize
+    }
+
+    // How many entries are free.
+    pub fn get_free_entry_count(&self) -> usize
+        ensures { result ≡ free self.now }
+    {
+        ENTRIES_PER_PAGE.saturating_sub(self.get_next_free_entry())
+    }
 }
