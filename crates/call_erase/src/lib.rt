@@ -8,8 +8,8 @@ ghost use Rattle.sector.specs.Answers.{refusal};
 ghost use Rattle.sector.specs.Layout.{entries_per_page};
 ghost use Rattle.call_erase.specs.Erase.{all_written, erase_checks, erase, erase_image};
 
-use page::{Listed, Outcome, ThinPage, fit};
-use sector::{Answer, ENTRIES_PER_PAGE, EntryMapState, SECTOR_SIZE, answers, states};
+use page::{Listed, ThinPage};
+use sector::{ENTRIES_PER_PAGE, EntryMapState, Refusal, SECTOR_SIZE, states};
 
 // A unit is four bytes: the map has eight.
 const UNITS: usize = 8;
@@ -21,52 +21,39 @@ fn all_written(map: [u8; 32], index: usize, span: usize) -> bool
     requires { index + span ≤ entries_per_page }
     ensures { result ≡ all_written map index span }
 {
-    for i in index..index + span {
-        if !sector_map::is_written(sector_map::state_at(map, i)) {
-            return false;
-        }
-    }
-    true
+    (index..index + span).all(|i| sector_map::is_written(sector_map::state_at(map, i)))
 }
 
 // Whether these entries can be erased: CorruptedData where there are none or they leave the page, NotWritten.
-fn range_refusal(map: [u8; 32], index: usize, span: usize) -> Answer
+fn range_refusal(map: [u8; 32], index: usize, span: usize) -> Result<(), Refusal>
     ensures { result ≡ refusal (
         (eqb span 0 || ltb entries_per_page (index + span), CorruptedData)
         ∷ (not (all_written map index span), NotWritten)
         ∷ []) }
 {
-    if span == 0 {
-        return Answer::CorruptedData;
-    }
-    if index > ENTRIES_PER_PAGE {
-        return Answer::CorruptedData;
-    }
-    if span > ENTRIES_PER_PAGE - index {
-        return Answer::CorruptedData;
+    if span == 0 || index > ENTRIES_PER_PAGE || span > ENTRIES_PER_PAGE - index {
+        return Err(Refusal::CorruptedData);
     }
     if !all_written(map, index, span) {
-        return Answer::NotWritten;
+        return Err(Refusal::NotWritten);
     }
-    Answer::Done
+    Ok(())
 }
 
-// The first check that refuses, in document 01's order, or Done.
-fn erase_refusal(image: &[u8], page: ThinPage, index: usize, span: usize) -> Answer
-    ensures { result ≡ refusal (erase_checks image.now page index span) }
+// The first check that refuses, in document 01's order.
+fn erase_refusal(image: &[u8], page: &ThinPage, index: usize, span: usize) -> Result<(), Refusal>
+    ensures { result ≡ refusal (erase_checks image.now page.now index span) }
 {
     if image.len() != SECTOR_SIZE {
-        return Answer::BadImage;
+        return Err(Refusal::BadImage);
     }
-    if !fit::fit_to_use(page) {
-        return Answer::BadRecord;
+    if !page.fit_to_use() {
+        return Err(Refusal::BadRecord);
     }
-    let state = page.state;
-    if !states::is_in_use(state) {
-        return Answer::WrongState;
+    if !states::is_in_use(page.state) {
+        return Err(Refusal::WrongState);
     }
-    let map = page.map;
-    range_refusal(map, index, span)
+    range_refusal(page.map, index, span)
 }
 
 // ---- the record
@@ -100,26 +87,18 @@ fn without(list: [Listed; 126], len: usize, index: usize) -> Places
 }
 
 // The record with these entries Erased and its list without their index.
-fn with_erased(page: ThinPage, index: usize, span: usize) -> ThinPage
-    requires { (fit_to_use page ≡ true) × (index + span ≤ entries_per_page) × (all_written page.map index span ≡ true) }
-    ensures { result ≡ with_erased page index span }
+fn with_erased(page: &ThinPage, index: usize, span: usize) -> ThinPage
+    requires { (fit_to_use page.now ≡ true) × (index + span ≤ entries_per_page) × (all_written page.now.map index span ≡ true) }
+    ensures { result ≡ with_erased page.now index span }
 {
-    let old_map = page.map;
-    let map = sector_map::mark_range(old_map, EntryMapState::Erased, index, span);
-    let old_list = page.list;
-    let places = without(old_list, page.len as usize, index);
-    let list = places.list;
-    let state = page.state;
+    let places = without(page.list, page.len as usize, index);
     ThinPage {
-        state,
-        sequence: page.sequence,
-        version: page.version,
-        crc: page.crc,
-        map,
+        map: sector_map::mark_range(page.map, EntryMapState::Erased, index, span),
         used: page.used - span as u8,
         erased: page.erased + span as u8,
         len: places.len,
-        list,
+        list: places.list,
+        ..*page
     }
 }
 
@@ -130,22 +109,18 @@ fn with_erased(page: ThinPage, index: usize, span: usize) -> ThinPage
 // Refuses, in this order: BadImage, BadRecord, WrongState unless Active, Full or Freeing, a span of 0 or entries that leave
 // the page (CorruptedData), an entry that is not Written (NotWritten). The Rust checks none of these, and lets its counts
 // saturate.
-pub fn erase_item(image: &mut [u8], page: ThinPage, index: usize, span: usize) -> Outcome
-    ensures answer { result ≡ erase image.old page index span }
-    ensures image { image.new ≡ erase_image image.old page index span }
+pub fn erase_item(
+    image: &mut [u8],
+    page: &mut ThinPage,
+    index: usize,
+    span: usize,
+) -> Result<(), Refusal>
+    ensures answer { result ≡ (erase image.old page.old index span).answer }
+    ensures page { page.new ≡ (erase image.old page.old index span).page }
+    ensures image { image.new ≡ erase_image image.old page.old index span }
 {
-    let refused = erase_refusal(image, page, index, span);
-    if !answers::is_done(refused) {
-        return Outcome {
-            answer: refused,
-            page,
-        };
-    }
-    let new = with_erased(page, index, span);
-    let map = new.map;
-    page_write::write_marks(image, map, index, span, UNITS);
-    Outcome {
-        answer: Answer::Done,
-        page: new,
-    }
+    erase_refusal(image, page, index, span)?;
+    *page = with_erased(page, index, span);
+    page_write::write_marks(image, page.map, index, span, UNITS);
+    Ok(())
 }

@@ -57,17 +57,27 @@ accepted_usable image page wrong checks h =
 module _ (checks : List Check) (page new : Page) (image : List ℕ) where
   -- where a check refuses
   pub call_refused : (stopped : Bool) (plan : List Unit4) {answer : Answer} → answer ≡ refusal checks → accepted checks ≡ false
-      → (answered answer page ≡ outcome checks stopped page new) × (image ≡ image_after checks plan image)
-  call_refused stopped plan e refused = rw (refused) (ap (λ (answer : Answer). answered answer page) e, refl)
+      → (answer ≡ (outcome checks stopped page new).answer) × (page ≡ (outcome checks stopped page new).page) × (image ≡ image_after checks plan image)
+  call_refused stopped plan e refused = rw refused (e, refl, refl)
 
   -- where no check refuses
-  pub call_ended : (n : ℕ) (plan : List Unit4) {total : ℕ} {made : Page} {after : List ℕ} {result : Outcome} → accepted checks ≡ true
+  pub call_ended : (n : ℕ) (plan : List Unit4) {total : ℕ} {made left : Page} {after : List ℕ} {answer : Answer} → accepted checks ≡ true
       → total ≡ length plan → made ≡ new → after ≡ run (take n plan) image
-      → result ≡ cond (ltb n total) (answered (Err Stopped) page) (answered Done made)
-      → (result ≡ outcome checks (stops n plan) page new) × (after ≡ image_after checks (take n plan) image)
-  call_ended n plan passed e m run_to r = rw passed (r ∙ rw (e, m), run_to)
+      → answer ≡ cond (ltb n total) (Err Stopped) Done → left ≡ cond (ltb n total) page made
+      → (answer ≡ (outcome checks (stops n plan) page new).answer) × (left ≡ (outcome checks (stops n plan) page new).page)
+      × (after ≡ image_after checks (take n plan) image)
+  call_ended n plan passed e m run_to a l =
+      rw passed (a ∙ rw e (cond_answer (stops n plan)), l ∙ rw (e, m) (cond_page (stops n plan)), run_to)
+    where
+      cond_answer : (b : Bool) → cond b (Err Stopped) Done ≡ (cond b (answered (Err Stopped) page) (answered Done new)).answer
+      cond_answer true = refl
+      cond_answer false = refl
+
+      cond_page : (b : Bool) → cond b page new ≡ (cond b (answered (Err Stopped) page) (answered Done new)).page
+      cond_page true = refl
+      cond_page false = refl
 
   -- where the call cannot be stopped
   pub call_whole : (plan : List Unit4) {made : Page} {after : List ℕ} → accepted checks ≡ true → made ≡ new → after ≡ run plan image
-      → (answered Done made ≡ outcome checks false page new) × (after ≡ image_after checks plan image)
-  call_whole plan passed m run_to = rw (passed) (ap (answered Done) m, run_to)
+      → (Done ≡ (outcome checks false page new).answer) × (made ≡ (outcome checks false page new).page) × (after ≡ image_after checks plan image)
+  call_whole plan passed m run_to = rw passed (refl, m, run_to)

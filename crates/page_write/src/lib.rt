@@ -2,44 +2,43 @@
 // the new record, and what a call hands back.
 #![tactic(auto)]
 
-ghost use Rattle.std.specs.Prelude.{◌≡◌, true, cond, [], ◌∷◌, ◌++◌, ◌+◌, ◌-◌, ◌*◌, ◌<◌, ◌≤◌, eqb, ltb, length, take, set};
+ghost use Rattle.std.specs.Prelude.{◌≡◌, true, cond, [], ◌∷◌, ◌++◌, ◌+◌, ◌≤◌, ◌*◌, ltb, length, take, Err};
 ghost use Rattle.flash.specs.Flash.{units, run};
-ghost use Rattle.sector.specs.Answers.{refusal};
+ghost use Rattle.sector.specs.Answers.{Done, refusal};
 ghost use Rattle.sector.specs.Header.{state_bytes};
 ghost use Rattle.sector.specs.Layout.{entry_address};
 ghost use Rattle.sector.specs.Map.{map_units};
-ghost use Rattle.sector.specs.declared.Answer.TheVariants.{Done, Stopped};
 ghost use Rattle.sector.specs.declared.PageState.TheVariants.{Full};
-ghost use Rattle.page.specs.Record.{next_free, free, fit_to_use, with_item};
-ghost use Rattle.page.specs.Writing.{bad_image, bad_record, not_active, full_units, answered};
+ghost use Rattle.sector.specs.declared.Refusal.TheVariants.{Stopped};
+ghost use Rattle.page.specs.Record.{next_free, fit_to_use, with_item};
+ghost use Rattle.page.specs.Writing.{bad_image, bad_record, not_active, full_units};
 
-use page::{Listed, Outcome, ThinPage, fit};
+use page::{Listed, ThinPage};
 use sector::{
-    Answer, ENTRIES_PER_PAGE, EntryMapState, MAP_OFFSET, PageState, SECTOR_SIZE, layout, states,
+    ENTRIES_PER_PAGE, EntryMapState, MAP_OFFSET, PageState, Refusal, SECTOR_SIZE, layout, states,
 };
 
 // ---- checks
 
 // Whether a record can take an item: BadRecord, then WrongState where it is not Active.
-pub fn active_refusal(page: ThinPage) -> Answer
-    ensures { result ≡ refusal (bad_record page ∷ not_active page ∷ []) }
+pub fn active_refusal(page: &ThinPage) -> Result<(), Refusal>
+    ensures { result ≡ refusal (bad_record page.now ∷ not_active page.now ∷ []) }
 {
-    if !fit::fit_to_use(page) {
-        return Answer::BadRecord;
+    if !page.fit_to_use() {
+        return Err(Refusal::BadRecord);
     }
-    let state = page.state;
-    if !states::is_active(state) {
-        return Answer::WrongState;
+    if !states::is_active(page.state) {
+        return Err(Refusal::WrongState);
     }
-    Answer::Done
+    Ok(())
 }
 
 // The checks in front of every append: BadImage, then those of the record.
-pub fn append_refusal(image: &[u8], page: ThinPage) -> Answer
-    ensures { result ≡ refusal (bad_image image.now ∷ bad_record page ∷ not_active page ∷ []) }
+pub fn append_refusal(image: &[u8], page: &ThinPage) -> Result<(), Refusal>
+    ensures { result ≡ refusal (bad_image image.now ∷ bad_record page.now ∷ not_active page.now ∷ []) }
 {
     if image.len() != SECTOR_SIZE {
-        return Answer::BadImage;
+        return Err(Refusal::BadImage);
     }
     active_refusal(page)
 }
@@ -84,7 +83,7 @@ pub fn seal(image: &mut [u8], map: [u8; 32], start: usize, span: usize, budget: 
     if start + span != ENTRIES_PER_PAGE {
         return marks;
     }
-    let full = write_full(image, flash::remaining(budget, marks));
+    let full = write_full(image, budget.saturating_sub(marks));
     marks + full
 }
 
@@ -104,102 +103,46 @@ pub fn write_entries(
     ensures image { image.new ≡ run (take budget (units (entry_address start) bytes.now ++ (map_units start span map ++ full_units (start + span)))) image.old }
 {
     let entries = flash::write_aligned(image, layout::entry_address(start), bytes, budget);
-    let sealed = seal(image, map, start, span, flash::remaining(budget, entries));
+    let sealed = seal(image, map, start, span, budget.saturating_sub(entries));
     entries + sealed
 }
 
 // ---- the record
 
-// The first entry after those that are used or erased (`get_next_free_entry`).
-pub fn get_next_free_entry(page: ThinPage) -> usize
-    ensures { result ≡ next_free page }
+// The record with an item of so many entries at next free: marked, counted, listed unless in namespace 0, and Full where no
+// entry is free then.
+pub fn with_item(page: &ThinPage, span: usize, namespace: u8, hash: u32) -> ThinPage
+    requires { (fit_to_use page.now ≡ true) × (1 ≤ span) × (next_free page.now + span ≤ 126) }
+    ensures { result ≡ with_item page.now span namespace hash }
 {
-    page.used as usize + page.erased as usize
-}
-
-// How many entries are free (`get_free_entry_count`).
-pub fn get_free_entry_count(page: ThinPage) -> usize
-    ensures { result ≡ free page }
-{
-    flash::remaining(ENTRIES_PER_PAGE, get_next_free_entry(page))
-}
-
-// Full where no entry is free after an item.
-fn state_after(state: PageState, end: usize) -> PageState
-    ensures { result ≡ cond (eqb end 126) Full state }
-{
-    if end == ENTRIES_PER_PAGE {
-        return PageState::Full;
+    let start = page.get_next_free_entry();
+    let mut new = *page;
+    new.map = sector_map::mark_range(page.map, EntryMapState::Written, start, span);
+    new.used += span as u8;
+    if start + span == ENTRIES_PER_PAGE {
+        new.state = PageState::Full;
     }
-    state
-}
-
-// One more, but for a namespace entry.
-fn len_after(len: u8, namespace: u8) -> u8
-    requires { len < 126 }
-    ensures { result ≡ cond (eqb namespace 0) len (len + 1) }
-{
-    if namespace == 0 { len } else { len + 1 }
-}
-
-// The place after those in use, but for a namespace entry.
-fn list_after(list: [Listed; 126], len: u8, place: Listed, namespace: u8) -> [Listed; 126]
-    requires { len < 126 }
-    ensures { result ≡ cond (eqb namespace 0) list (set list len place) }
-{
-    if namespace == 0 {
-        return list;
+    if namespace != 0 {
+        new.list[page.len as usize] = Listed {
+            hash,
+            index: start as u8,
+        };
+        new.len += 1;
     }
-    let mut places = list;
-    places[len as usize] = place;
-    places
-}
-
-// The record with an item of so many entries at next free: marked, counted, listed unless in namespace 0.
-pub fn with_item(page: ThinPage, span: usize, namespace: u8, hash: u32) -> ThinPage
-    requires { (fit_to_use page ≡ true) × (1 ≤ span) × (next_free page + span ≤ 126) }
-    ensures { result ≡ with_item page span namespace hash }
-{
-    let start = get_next_free_entry(page);
-    let old_state = page.state;
-    let state = state_after(old_state, start + span);
-    let old_map = page.map;
-    let map = sector_map::mark_range(old_map, EntryMapState::Written, start, span);
-    let place = Listed {
-        hash,
-        index: start as u8,
-    };
-    let old_list = page.list;
-    let list = list_after(old_list, page.len, place, namespace);
-    let len = len_after(page.len, namespace);
-    ThinPage {
-        state,
-        sequence: page.sequence,
-        version: page.version,
-        crc: page.crc,
-        map,
-        used: page.used + span as u8,
-        erased: page.erased,
-        len,
-        list,
-    }
+    new
 }
 
 // ---- the end of a call
 
-// What a call hands back once its checks have accepted: Stopped with the incoming record where it was told to stop
-// before its last unit, else Done with the new one.
-pub fn ended(page: ThinPage, new: ThinPage, stop: usize, total: usize) -> Outcome
-    ensures { result ≡ cond (ltb stop total) (answered Stopped page) (answered Done new) }
+// What a call answers once its checks have accepted: Stopped where it was told to stop before its last unit, and the record
+// stays as it came; else the record becomes the new one.
+pub fn ended(page: &mut ThinPage, new: ThinPage, stop: usize, total: usize) -> Result<(), Refusal>
+    ensures answer { result ≡ cond (ltb stop total) (Err Stopped) Done }
+    ensures page { page.new ≡ cond (ltb stop total) page.old new }
 {
     if stop < total {
-        return Outcome {
-            answer: Answer::Stopped,
-            page,
-        };
+        return Err(Refusal::Stopped);
     }
-    Outcome {
-        answer: Answer::Done,
-        page: new,
-    }
+    *page = new;
+    Ok(())
 }

@@ -10,10 +10,10 @@ returns-then-not-fit_to_use c =
 
 pub returns-then-not-is_active : goal.returns-then-not-is_active
 returns-then-not-is_active c =
-    let fit : fit_to_use c.args.page ≡ true = sym c.fit_to_use.ensures ∙ c.if-not-fit_to_use.false in
+    let fit : fit_to_use c.args.page.now ≡ true = sym c.fit_to_use.ensures ∙ c.if-not-fit_to_use.false in
     rw (fit, sym c.is_active.ensures ∙ c.if-not-is_active.true)
 
 pub returns : goal.returns
 returns c =
-    let fit : fit_to_use c.args.page ≡ true = sym c.fit_to_use.ensures ∙ c.if-not-fit_to_use.false in
+    let fit : fit_to_use c.args.page.now ≡ true = sym c.fit_to_use.ensures ∙ c.if-not-fit_to_use.false in
     rw (fit, sym c.is_active.ensures ∙ c.if-not-is_active.false)

@@ -33,7 +33,7 @@ returns c =
     (let both = run_both z.budget (map_units z.start z.span z.map) (units 0 (state_bytes Full)) z.image.now
     c.write_marks-marks.ensures.total
     c.write_full-full.ensures.total
-    c.remaining.ensures
+    c.saturating_sub.ensures
     c.write_marks-marks.ensures.image
     c.write_full-full.ensures.image in
     record { total = both.0; image = both.1 })

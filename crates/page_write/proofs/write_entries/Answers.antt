@@ -30,7 +30,7 @@ returns c =
     z.image.now
     c.write_aligned-entries.ensures.total
     c.seal-sealed.ensures.total
-    c.remaining.ensures
+    c.saturating_sub.ensures
     c.write_aligned-entries.ensures.image
     c.seal-sealed.ensures.image in
     record { total = both.0; image = both.1 })
