@@ -6,12 +6,11 @@ use mathlib.Core.List.{List}
 use Prim.Native.Nat.{ℕ}
 use lib.ListN.{length}
 use borrow.Author.Tests.{eq-eqb, ne_eqb}
-use Rattle.sector.specs.declared.Answer.{Answer}
-use Rattle.sector.specs.Answers.{number_of, carried_byte}
-use Rattle.page.specs.declared.Outcome.{Outcome}
+use Rattle.sector.specs.Answers.{Answer, number_of, carried_byte}
 use Rattle.page.specs.Record.{Page}
 use Rattle.boundary_encoding.specs.Encoding.{record_of, record_bytes, answer_bytes, no_counts, wrong_size}
 use Rattle.boundary_results.specs.Handing.{record_left}
+use Rattle.page.specs.Writing.{Outcome}
 
 pub wrong_size_lem : (size : ℕ) (bytes : List ℕ) → (length bytes ≡ size → ⊥) → wrong_size size bytes ≡ true
 wrong_size_lem size bytes h = ap not (ne_eqb (length bytes) size h)

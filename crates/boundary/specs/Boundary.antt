@@ -4,16 +4,13 @@
 -- BadCall is for a buffer of fixed size that has another length. It is checked before everything else, and changes nothing.
 -- Not here: the calls that hand back a number alone, which say all in their contracts.
 use Rattle.std.specs.Prelude.{Bool, ◌||◌, cond, List, ℕ, length}
-use Rattle.sector.specs.declared.Answer.{Answer}
-use Rattle.sector.specs.declared.Answer.TheVariants.{Done}
 use Rattle.sector.specs.declared.Statistics.{Statistics}
-use Rattle.sector.specs.Answers.{number_of, carried_byte}
+use Rattle.sector.specs.Answers.{Done, Answer, number_of, carried_byte}
 use Rattle.sector.specs.Header.{header_crc}
 use Rattle.sector.specs.Item.{item_crc, hash_of}
 use Rattle.sector.specs.Layout.{entries_per_page, chunks}
 use Rattle.sector.specs.Map.{bits_of, entry_state, statistics}
 use Rattle.sector.specs.Types.{primitive_width}
-use Rattle.page.specs.declared.Outcome.{Outcome}
 use Rattle.call_append.specs.declared.Single.{Single}
 use Rattle.call_append.specs.declared.Variable.{Variable}
 use Rattle.call_append.specs.Append.{namespace_item, append_single, append_single_image, append_variable, append_variable_image}
@@ -27,6 +24,7 @@ use Rattle.call_load_data.specs.Payload.{data_answer, data_output}
 use Rattle.opening.specs.Opening.{opening, opening_image, opening_stopped, opening_stopped_image}
 use Rattle.boundary_results.specs.Handing.{record_left}
 use Rattle.boundary_encoding.specs.Encoding.{record_size, record_bytes, record_of, answer_size, answer_bytes, zero_item, no_counts, wrong_size}
+use Rattle.page.specs.Writing.{Outcome}
 
 -- ---- sizes
 

@@ -9,7 +9,7 @@ use Rattle.page.specs.Record.{Page, next_free, fit_to_use}
 use Rattle.page.specs.Writing.{bad_image, bad_record, not_active, over_free}
 use Rattle.sector.proofs.Laws.{accepted_tail}
 use Rattle.page.proofs.Checks.{accepted_room, accepted_usable}
-use Rattle.sector.specs.declared.Answer.TheVariants.{BadRequest}
+use Rattle.sector.specs.declared.Refusal.TheVariants.{BadRequest}
 use Rattle.sector.specs.Answers.{Check, accepted}
 use Rattle.sector.specs.Layout.{sector_size, entries_per_page}
 use Rattle.call_append.specs.declared.Single.{Single}

@@ -3,10 +3,9 @@
 -- In order: which types a call takes; append single; the namespace append; append variable.
 use Rattle.std.specs.Prelude.{Bool, true, false, ◌&&◌, ◌||◌, not, List, [], ◌∷◌, ◌++◌, ℕ, ◌+◌, ◌/◌, eqb, ltb, length, take, replicate}
 use Rattle.flash.specs.Flash.{Unit4, units}
-use Rattle.page.specs.declared.Outcome.{Outcome}
 use Rattle.page.specs.Record.{Page, next_free, with_item}
-use Rattle.page.specs.Writing.{bad_image, bad_record, not_active, over_free, outcome, image_after, stops, item_plan}
-use Rattle.sector.specs.declared.Answer.TheVariants.{BadRequest, ValueTooLong}
+use Rattle.page.specs.Writing.{Outcome, bad_image, bad_record, not_active, over_free, outcome, image_after, stops, item_plan}
+use Rattle.sector.specs.declared.Refusal.TheVariants.{BadRequest, ValueTooLong}
 use Rattle.sector.specs.declared.ItemType.{ItemType}
 use Rattle.sector.specs.declared.ItemType.TheVariants.{U8, I8, U16, I16, U32, I32, U64, I64, Sized, Blob, BlobData, BlobIndex, Any}
 use Rattle.sector.specs.Answers.{Check}

@@ -10,7 +10,7 @@ use Rattle.page.specs.Record.{Page}
 use Rattle.page.specs.Writing.{not_active, over_free}
 use Rattle.sector.proofs.Laws.{accepted_tail}
 use Rattle.page.proofs.Checks.{accepted_room, accepted_usable}
-use Rattle.sector.specs.declared.Answer.TheVariants.{BadRequest, ValueTooLong}
+use Rattle.sector.specs.declared.Refusal.TheVariants.{BadRequest, ValueTooLong}
 use Rattle.sector.specs.Answers.{accepted}
 use Rattle.sector.specs.Layout.{entries_per_page}
 use Rattle.call_append.proofs.Laws.{Room}

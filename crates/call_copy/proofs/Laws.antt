@@ -13,8 +13,7 @@ use Rattle.flash.proofs.Laws.{neither}
 use Rattle.sector.proofs.Laws.{accepted_at}
 use Rattle.page.specs.Record.{Page, next_free, free, fit_to_use, with_item}
 use Rattle.page.specs.Writing.{full_units, item_plan}
-use Rattle.sector.specs.declared.Answer.TheVariants.{Done}
-use Rattle.sector.specs.Answers.{accepted}
+use Rattle.sector.specs.Answers.{Done, accepted}
 use Rattle.sector.specs.Item.{hash_of_item}
 use Rattle.sector.specs.Layout.{sector_size, entries_per_page, entry_size, entry_address, entry_at, namespace_of, span_of}
 use Rattle.sector.specs.Map.{map_units}

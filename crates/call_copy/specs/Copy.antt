@@ -4,10 +4,9 @@
 -- BadImage, before the record is looked at.
 use Rattle.std.specs.Prelude.{◌||◌, not, List, [], ◌∷◌, ℕ, ◌+◌, ◌*◌, eqb, ltb, take}
 use Rattle.flash.specs.Flash.{Unit4, units}
-use Rattle.page.specs.declared.Outcome.{Outcome}
 use Rattle.page.specs.Record.{Page, next_free, with_item}
-use Rattle.page.specs.Writing.{bad_image, bad_record, not_active, over_free, outcome, image_after, stops, item_plan}
-use Rattle.sector.specs.declared.Answer.TheVariants.{KeyNotFound, CorruptedData}
+use Rattle.page.specs.Writing.{Outcome, bad_image, bad_record, not_active, over_free, outcome, image_after, stops, item_plan}
+use Rattle.sector.specs.declared.Refusal.TheVariants.{KeyNotFound, CorruptedData}
 use Rattle.sector.specs.Answers.{Check}
 use Rattle.sector.specs.Item.{loads, hash_of_item}
 use Rattle.sector.specs.Layout.{entries_per_page, entry_size, entry_address, entry_at, field, namespace_of, span_of}

@@ -3,7 +3,7 @@
 
 ghost use Rattle.std.specs.Prelude.{◌≡◌, ◌||◌, not, [], ◌∷◌, ◌+◌, ◌<◌, eqb, ltb};
 ghost use Rattle.page.specs.Writing.{over_free};
-ghost use Rattle.sector.specs.declared.Answer.TheVariants.{KeyNotFound, CorruptedData};
+ghost use Rattle.sector.specs.declared.Refusal.TheVariants.{KeyNotFound, CorruptedData};
 ghost use Rattle.sector.specs.Answers.{refusal};
 ghost use Rattle.sector.specs.Item.{loads};
 ghost use Rattle.sector.specs.Layout.{entries_per_page, span_of};

@@ -18,9 +18,9 @@ use Rattle.page.specs.declared.Listed.{Listed}
 use Rattle.page.specs.Record.{Page, no_item, without, padded, fit_to_use, with_erased}
 use Rattle.page.proofs.Laws.{padded_more}
 use Rattle.page.proofs.Plans.{length-map_units_le}
-use Rattle.sector.specs.declared.Answer.TheVariants.{Done}
 use Rattle.sector.specs.declared.EntryMapState.TheVariants.{Empty, Written, Erased}
 use Rattle.sector.specs.Answers.{accepted}
+use Rattle.sector.specs.declared.Refusal.TheVariants.{Stopped}
 use Rattle.sector.specs.Layout.{sector_size, entries_per_page}
 use Rattle.sector.specs.Map.{state_at, states_of, same_state, count_in, mark_range, map_units}
 use Rattle.sector.proofs.Laws.{length-states_of, get_d_states_of, accepted_at}
@@ -96,7 +96,7 @@ pub erase_fits : (image : List ℕ) (page : Page) (index span : ℕ) → accepte
     → EraseFits image page index span
 erase_fits image page index span h =
     let checks = erase_checks image page index span in
-    let at : (n : ℕ) → (get_or checks n (false, Done)).0 ≡ false = λ n. accepted_at checks n h in
+    let at : (n : ℕ) → (get_or checks n (false, Stopped)).0 ≡ false = λ n. accepted_at checks n h in
     let range = neither (eqb span 0) (ltb entries_per_page (index + span)) (at 3) in
     record {
       whole = eqb-true _ _ (not-false _ (at 0));

@@ -1,10 +1,9 @@
 -- Erase (01, 'Erase'): checks in order, plan, new record.
 use Rattle.std.specs.Prelude.{Bool, false, ◌||◌, not, List, [], ◌∷◌, ℕ, ◌+◌, eqb, ltb, take, drop}
 use Rattle.flash.specs.Flash.{Unit4, every}
-use Rattle.page.specs.declared.Outcome.{Outcome}
 use Rattle.page.specs.Record.{Page, with_erased}
-use Rattle.page.specs.Writing.{bad_image, bad_record, outcome, image_after}
-use Rattle.sector.specs.declared.Answer.TheVariants.{WrongState, CorruptedData, NotWritten}
+use Rattle.page.specs.Writing.{Outcome, bad_image, bad_record, outcome, image_after}
+use Rattle.sector.specs.declared.Refusal.TheVariants.{WrongState, CorruptedData, NotWritten}
 use Rattle.sector.specs.declared.EntryMapState.TheVariants.{Written, Erased}
 use Rattle.sector.specs.Answers.{Check}
 use Rattle.sector.specs.Header.{is_in_use}

@@ -3,7 +3,7 @@
 
 ghost use Rattle.std.specs.Prelude.{◌≡◌, true, false, ◌||◌, not, [], ◌∷◌, ◌+◌, ◌≤◌, eqb, ltb, length, take};
 ghost use Rattle.page.specs.Record.{fit_to_use, without, padded, with_erased};
-ghost use Rattle.sector.specs.declared.Answer.TheVariants.{CorruptedData, NotWritten};
+ghost use Rattle.sector.specs.declared.Refusal.TheVariants.{CorruptedData, NotWritten};
 ghost use Rattle.sector.specs.Answers.{refusal};
 ghost use Rattle.sector.specs.Layout.{entries_per_page};
 ghost use Rattle.call_erase.specs.Erase.{all_written, erase_checks, erase, erase_image};
@@ -21,7 +21,12 @@ fn all_written(map: [u8; 32], index: usize, span: usize) -> bool
     requires { index + span ≤ entries_per_page }
     ensures { result ≡ all_written map index span }
 {
-    (index..index + span).all(|i| sector_map::is_written(sector_map::state_at(map, i)))
+    for i in index..index + span {
+        if !sector_map::is_written(sector_map::state_at(map, i)) {
+            return false;
+        }
+    }
+    true
 }
 
 // Whether these entries can be erased: CorruptedData where there are none or they leave the page, NotWritten.
@@ -31,7 +36,13 @@ fn range_refusal(map: [u8; 32], index: usize, span: usize) -> Result<(), Refusal
         ∷ (not (all_written map index span), NotWritten)
         ∷ []) }
 {
-    if span == 0 || index > ENTRIES_PER_PAGE || span > ENTRIES_PER_PAGE - index {
+    if span == 0 {
+        return Err(Refusal::CorruptedData);
+    }
+    if index > ENTRIES_PER_PAGE {
+        return Err(Refusal::CorruptedData);
+    }
+    if span > ENTRIES_PER_PAGE - index {
         return Err(Refusal::CorruptedData);
     }
     if !all_written(map, index, span) {
@@ -92,14 +103,14 @@ fn with_erased(page: &ThinPage, index: usize, span: usize) -> ThinPage
     ensures { result ≡ with_erased page.now index span }
 {
     let places = without(page.list, page.len as usize, index);
-    ThinPage {
-        map: sector_map::mark_range(page.map, EntryMapState::Erased, index, span),
-        used: page.used - span as u8,
-        erased: page.erased + span as u8,
-        len: places.len,
-        list: places.list,
-        ..*page
-    }
+    let mut new = *page;
+    new.map = sector_map::mark_range(page.map, EntryMapState::Erased, index, span);
+    new.used -= span as u8;
+    new.erased += span as u8;
+    let list = places.list;
+    new.list = list;
+    new.len = places.len;
+    new
 }
 
 // ---- the call

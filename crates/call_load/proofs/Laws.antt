@@ -5,12 +5,10 @@ use mathlib.Core.List.{List, ◌++◌}
 use Prim.Native.Nat.{ℕ, ◌+◌, ◌<◌}
 use lib.ListN.{length, get_or}
 use borrow.Author.Tests.{ltb-true, eqb-true, not-false}
-use Rattle.sector.specs.declared.Answer.TheVariants.{Done}
-use Rattle.sector.specs.Answers.{Check, refusal, accepted}
+use Rattle.sector.specs.Answers.{Done, Check, refusal, accepted}
 use Rattle.sector.specs.Layout.{sector_size, entries_per_page}
 use Rattle.sector.proofs.Laws.{accepted_append, refusal_append, refusal_accepted, accepted_at}
-use Rattle.call_load.specs.declared.Loaded.{Loaded}
-use Rattle.call_load.specs.Load.{entry_checks, load_checks, refused_item, loaded_or}
+use Rattle.call_load.specs.Load.{Loaded, entry_checks, load_checks, refused_item, loaded_or}
 
 -- ---- the calls' checks
 

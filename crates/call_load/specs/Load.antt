@@ -2,12 +2,15 @@
 --
 -- In order: raw read; load. Not here: load data (crate call_load_data).
 use Rattle.std.specs.Prelude.{not, cond, List, [], ◌∷◌, ℕ, eqb, ltb, length, replicate}
-use Rattle.sector.specs.declared.Answer.{Answer}
-use Rattle.sector.specs.declared.Answer.TheVariants.{Done, BadImage, KeyNotFound, CorruptedData}
-use Rattle.sector.specs.Answers.{Check, refusal, accepted}
+use Rattle.sector.specs.declared.Refusal.TheVariants.{BadImage, KeyNotFound, CorruptedData}
+use Rattle.sector.specs.Answers.{Done, Answer, Check, refusal, accepted}
 use Rattle.sector.specs.Item.{loads}
 use Rattle.sector.specs.Layout.{sector_size, entries_per_page, entry_size, entry_at}
-use Rattle.call_load.specs.declared.Loaded.{Loaded}
+
+-- what raw read and load answer: an entry's 32 bytes, all zero where the answer is not Done
+pub record Loaded : Type 0 where
+  pub answer : Answer
+  pub item : List ℕ
 
 -- ---- raw read
 

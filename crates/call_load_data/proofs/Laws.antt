@@ -6,8 +6,7 @@ use Prim.Native.Nat.{ℕ, ◌+◌, ◌-◌, ◌*◌, ◌≤◌, ◌<◌}
 use native.Mathlib.Omega.{arith}
 use borrow.Author.Tests.{ltb-true, ltb-false, eqb-true, not-false}
 use lib.ListN.{length, take, drop, get_or, length-append, length-take, length-drop}
-use Rattle.sector.specs.declared.Answer.TheVariants.{Done}
-use Rattle.sector.specs.Answers.{accepted}
+use Rattle.sector.specs.Answers.{Done, accepted}
 use Rattle.sector.specs.Layout.{sector_size, entries_per_page, entry_size, entry_address, entry_at, span_of, size_of}
 use Rattle.sector.proofs.Laws.{accepted_at}
 use Rattle.call_load_data.specs.Payload.{rounded_up, data_checks}

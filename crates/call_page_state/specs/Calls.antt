@@ -4,10 +4,9 @@
 use Rattle.std.specs.Prelude.{false, not, List, [], ◌∷◌, ℕ, take}
 use Rattle.crc.specs.Crc.{crc32}
 use Rattle.flash.specs.Flash.{Unit4, units, all_ones}
-use Rattle.page.specs.declared.Outcome.{Outcome}
 use Rattle.page.specs.Record.{Page}
-use Rattle.page.specs.Writing.{bad_image, bad_record, not_active, outcome, image_after, stops}
-use Rattle.sector.specs.declared.Answer.TheVariants.{WrongState, CorruptedData}
+use Rattle.page.specs.Writing.{Outcome, bad_image, bad_record, not_active, outcome, image_after, stops}
+use Rattle.sector.specs.declared.Refusal.TheVariants.{WrongState, CorruptedData}
 use Rattle.sector.specs.declared.PageState.TheVariants.{Active, Full}
 use Rattle.sector.specs.Answers.{Check}
 use Rattle.sector.specs.Header.{header_body, header_bytes, state_bytes, is_uninitialized}

@@ -2,8 +2,7 @@
 use Rattle.std.specs.Prelude.{cond, List, [], ◌∷◌, ℕ, ◌-◌, ◌*◌, min, max, ltb, replicate}
 use Rattle.flash.specs.Flash.{Unit4, units}
 use Rattle.page.specs.Writing.{bad_image, image_after}
-use Rattle.sector.specs.declared.Answer.{Answer}
-use Rattle.sector.specs.Answers.{refusal}
+use Rattle.sector.specs.Answers.{Answer, refusal}
 use Rattle.sector.specs.Layout.{entries_per_page, entry_size, entry_address}
 
 -- held between 1 and 126 - index

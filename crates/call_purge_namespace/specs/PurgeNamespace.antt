@@ -3,9 +3,8 @@
 -- A list of entries to zero is read off the image as it comes; then their units.
 use Rattle.std.specs.Prelude.{Bool, false, ◌&&◌, cond, List, [], ◌∷◌, ◌++◌, ℕ, zero, suc, ◌-◌, eqb, replicate}
 use Rattle.flash.specs.Flash.{Unit4, units}
-use Rattle.page.specs.declared.Outcome.{Outcome}
 use Rattle.page.specs.Record.{Page}
-use Rattle.page.specs.Writing.{bad_image, bad_record, outcome, image_after}
+use Rattle.page.specs.Writing.{Outcome, bad_image, bad_record, outcome, image_after}
 use Rattle.sector.specs.declared.EntryMapState.{EntryMapState}
 use Rattle.sector.specs.declared.EntryMapState.TheVariants.{Empty, Written, Erased, Illegal}
 use Rattle.sector.specs.Answers.{Check}

@@ -2,7 +2,7 @@
 --
 -- In order: the public functions of this crate, by what their callers learn; the codings that tell answers, states and types apart.
 use mathlib.Core.Path.{◌≡◌, sym, ap, ap₂, ◌∙◌}
-pub use Rattle.crc.proofs.Unique.{OneResult, OneOutcome, unique}
+pub use Rattle.crc.proofs.Unique.{OneResult, OneOutcome, unique, both_unique}
 use Rattle.sector.specs.declared.EntryMapState.{EntryMapState}
 use Rattle.sector.specs.declared.ItemType.{ItemType}
 use Rattle.sector.specs.declared.PageState.{PageState}

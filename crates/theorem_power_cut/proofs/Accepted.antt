@@ -10,8 +10,8 @@ use borrow.Author.Tests.{ltb-false}
 use Rattle.flash.specs.Flash.{Unit4, every}
 use Rattle.page.specs.Record.{Page}
 use Rattle.page.specs.Writing.{outcome, stops}
-use Rattle.sector.specs.declared.Answer.TheVariants.{Done, Stopped}
-use Rattle.sector.specs.Answers.{Check, accepted}
+use Rattle.sector.specs.declared.Refusal.TheVariants.{Stopped}
+use Rattle.sector.specs.Answers.{Done, Check, accepted}
 use Rattle.theorem_writing.specs.Promises.{checks_of, plan_of, new_of}
 use Rattle.theorem_writing.proofs.Answers.{answers_refusal, checks_refuse, stopped_only, done_only, told_put}
 use Rattle.theorem_power_cut.specs.History.{AppendOrCopy, call_of, put_request}

@@ -13,7 +13,6 @@ use Rattle.flash.specs.Flash.{run}
 use Rattle.flash.proofs.Laws.{all_ones-replicate, Outside, outside_within, outside_append, outside_take, take_drop_run}
 use Rattle.page.specs.Record.{Page, next_free, uninitialized, with_erased}
 use Rattle.page.specs.Writing.{answered, item_plan}
-use Rattle.sector.specs.declared.Answer.TheVariants.{Done}
 use Rattle.sector.specs.Header.{state_of_word}
 use Rattle.sector.specs.Layout.{entry_address, entry_at}
 use Rattle.sector.proofs.Marks.{within_map_units}
@@ -35,6 +34,7 @@ use Rattle.theorem_power_cut.proofs.Started.{page as at_hand, next_is, Started, 
 use Rattle.theorem_power_cut.proofs.Held.{Held, Known, held, blank, blank_kept, opened_known}
 use Rattle.theorem_power_cut.proofs.Steps.{blank_refuses, opens_split, header_opens_here, cut_opens, cut_kept, done_held}
 use Rattle.theorem_power_cut.proofs.Erasing.{some, fits, run_erase, erased_standing, with_erased_lem}
+use Rattle.sector.specs.Answers.{Done}
 
 -- ---- every point of a history is known
 

@@ -19,7 +19,7 @@ use Rattle.page.specs.Record.{Page, no_item, place_zero, is_blank, fit_to_use, u
 use Rattle.page.specs.Writing.{answered, outcome, stops}
 use Rattle.page.proofs.Checks.{accepted_usable}
 use Rattle.page.proofs.Laws.{fit_clauses}
-use Rattle.sector.specs.declared.Answer.TheVariants.{Done, CorruptedData}
+use Rattle.sector.specs.declared.Refusal.TheVariants.{CorruptedData}
 use Rattle.sector.specs.declared.PageState.TheVariants.{Active}
 use Rattle.sector.specs.Header.{state_of_word, header_crc, header_body, header_bytes, is_uninitialized}
 use Rattle.sector.specs.Item.{crc_start}
@@ -38,6 +38,7 @@ use Rattle.theorem_power_cut.proofs.Held.{Held}
 use Rattle.theorem_power_cut.proofs.Standing.{Standing, standing_kept}
 use Rattle.theorem_power_cut.proofs.InitialiseCut.{header_long, header_bytes_lem, image_after_lem, run_header}
 use Rattle.theorem_power_cut.proofs.Demand.{held_opening, held_image}
+use Rattle.sector.specs.Answers.{Done}
 
 -- ---- the finished page
 

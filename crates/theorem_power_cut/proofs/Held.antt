@@ -13,7 +13,6 @@ use borrow.Author.Tests.{eq-eqb}
 use Rattle.flash.specs.Flash.{run, all_ones}
 use Rattle.flash.proofs.Laws.{Bytes, replicate-all_ones}
 use Rattle.page.specs.Record.{Page, uninitialized}
-use Rattle.sector.specs.declared.Answer.TheVariants.{Done}
 use Rattle.sector.specs.Layout.{map_of, entries_of}
 use Rattle.sector.proofs.Marks.{image_parts, map_of_parts}
 use Rattle.opening_reading.specs.Reading.{Item}
@@ -28,6 +27,7 @@ use Rattle.theorem_power_cut.proofs.Standing.{Standing, standing_map}
 use Rattle.theorem_power_cut.proofs.OpenedPage.{run_opening, opened_size, opened_standing}
 use Rattle.theorem_power_cut.proofs.AtHand.{page_of, opened_is}
 use Rattle.theorem_power_cut.proofs.Headers.{HeaderOpens, opens_facts, blank_facts, header_opens, image_opens}
+use Rattle.sector.specs.Answers.{Done}
 
 -- ---- a page that is held
 

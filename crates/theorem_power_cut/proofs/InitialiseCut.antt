@@ -4,6 +4,7 @@
 -- is not refused.
 -- The phases are the state word and the sequence; the version, and 0xFF after it; the CRC. The version is 0xFF before the second ends. From then on
 -- the page is the finished one exactly where the CRC is right.
+use Rattle.std.specs.Prelude.{Err}
 use mathlib.Core.Path.{◌≡◌, refl, sym, ap, ap₂, ◌∙◌, subst}
 use mathlib.Core.Bool.{Bool, true, false, ◌&&◌, not, cond}
 use mathlib.Core.List.{List, [], ◌∷◌, ◌++◌, append-nil}
@@ -23,8 +24,8 @@ use Rattle.flash.proofs.Cuts.{between_ends, AfterFront, after_front, before_back
 use Rattle.page.specs.Record.{Page, uninitialized}
 use Rattle.page.specs.Writing.{answered}
 use Rattle.page.proofs.Checks.{accepted_usable}
-use Rattle.sector.specs.declared.Answer.TheVariants.{Done, CorruptedData}
-use Rattle.sector.specs.Answers.{accepted}
+use Rattle.sector.specs.declared.Refusal.TheVariants.{CorruptedData}
+use Rattle.sector.specs.Answers.{Done, accepted}
 use Rattle.sector.specs.Header.{state_of_word, header_crc, header_body, header_bytes, is_uninitialized, is_in_use}
 use Rattle.sector.specs.Item.{crc_start}
 use Rattle.sector.specs.Layout.{number, little_endian, state_word, version_of, stored_header_crc}
@@ -117,7 +118,7 @@ module _ (sequence : ℕ) where
   -- ---- what opening makes of a cut
 
   abbrev Cut : List ℕ → Type 0
-  Cut cut = (opening cut ≡ answered Done uninitialized) ⊎ ((opening cut ≡ answered CorruptedData uninitialized) ⊎ (cut ≡ finished))
+  Cut cut = (opening cut ≡ answered Done uninitialized) ⊎ ((opening cut ≡ answered (Err CorruptedData) uninitialized) ⊎ (cut ≡ finished))
 
   -- a version of 0xFF: erased or CorruptedData
   no_version : (cut : List ℕ) → length cut ≡ 4096 → version_of cut ≡ 0xFF → Cut cut
@@ -126,7 +127,7 @@ module _ (sequence : ℕ) where
     where
       refused : (none used : Bool)
           → answer_for (cond (none && false) Blank (cond (not used) WrongPageState (cond true WrongVersion (cond (not (eqb (header_crc cut) (stored_header_crc cut))) WrongHeaderCrc Opens)))) cut
-          ≡ answered CorruptedData uninitialized
+          ≡ answered (Err CorruptedData) uninitialized
       refused true true = refl
       refused true false = refl
       refused false true = refl

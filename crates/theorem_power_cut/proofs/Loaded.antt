@@ -12,8 +12,7 @@ use lib.ListN.{length, take, drop, replicate, length-take, length-drop, length-r
 use lib.Seq.{take-take, take-append-le}
 use borrow.Author.Tests.{eq-eqb, ne_eqb, lt-ltb, le-ltb, ltb-false}
 use Rattle.page.specs.Record.{Page}
-use Rattle.sector.specs.declared.Answer.TheVariants.{Done}
-use Rattle.sector.specs.Answers.{accepted}
+use Rattle.sector.specs.Answers.{Done, accepted}
 use Rattle.sector.specs.Item.{loads}
 use Rattle.sector.specs.Layout.{entry_address, entry_at, entries_of, span_of, size_of}
 use Rattle.sector.proofs.Laws.{length_chunks, length-entries_of}

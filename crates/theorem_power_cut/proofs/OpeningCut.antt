@@ -12,7 +12,6 @@ use Rattle.flash.specs.Flash.{Unit4, run, Between, CutAt}
 use Rattle.flash.proofs.Laws.{Bytes, bytes_take, bytes_drop, bytes_clears, length_clears}
 use Rattle.flash.proofs.Cuts.{between_ends, after_front, before_back, whole_units_cut, cut_between, CutInto, of_first, of_second, cut_append}
 use Rattle.page.specs.Writing.{answered}
-use Rattle.sector.specs.declared.Answer.TheVariants.{Done}
 use Rattle.sector.specs.Layout.{field, version_of, map_of, entries_of, chunks}
 use Rattle.sector.specs.Map.{states_of, unpack, pack}
 use Rattle.sector.proofs.Laws.{length_unpack}
@@ -32,6 +31,7 @@ use Rattle.theorem_power_cut.proofs.Found.{map_size_lem}
 use Rattle.theorem_power_cut.proofs.OpenedPage.{header_size, states_size, same_size, first_size, opened_size, before, first, run_first, between, second, run_second, run_opening}
 use Rattle.theorem_power_cut.proofs.AtHand.{field_front, version_front}
 use Rattle.theorem_power_cut.proofs.Headers.{HeaderOpens, opens_facts, opens_of, header_opens, image_opens}
+use Rattle.sector.specs.Answers.{Done}
 
 abbrev Same : List ℕ → List ℕ → Type 0
 Same cut image = (opening cut ≡ opening image) × (opening_image cut ≡ opening_image image) × (kept_items cut ≡ kept_items image)

@@ -15,10 +15,10 @@ use Rattle.page.specs.Record.{Page, next_free, with_item}
 use Rattle.page.specs.Writing.{over_free, item_plan, stops, outcome}
 use Rattle.page.proofs.Checks.{accepted_usable}
 use Rattle.page.proofs.Laws.{fit_clauses}
-use Rattle.sector.specs.declared.Answer.TheVariants.{Done, BadRequest, ValueTooLong}
+use Rattle.sector.specs.declared.Refusal.TheVariants.{BadRequest, ValueTooLong}
 use Rattle.sector.specs.declared.PageState.{PageState}
 use Rattle.sector.specs.declared.PageState.TheVariants.{Uninitialized, Active, Full, Freeing, Corrupt, Invalid}
-use Rattle.sector.specs.Answers.{Check, accepted}
+use Rattle.sector.specs.Answers.{Done, Check, accepted}
 use Rattle.sector.specs.Header.{state_of_word, is_active}
 use Rattle.sector.specs.Item.{hash_of, hash_of_item, item_bytes, sized_data}
 use Rattle.sector.specs.Layout.{state_word, namespace_of}

@@ -16,7 +16,6 @@ use Rattle.flash.proofs.Laws.{Bytes, bytes_take, length_run, clears_run}
 use Rattle.flash.proofs.Cuts.{between_new, whole_units_cut}
 use Rattle.page.specs.Record.{uninitialized}
 use Rattle.page.specs.Writing.{full_units}
-use Rattle.sector.specs.declared.Answer.TheVariants.{Done}
 use Rattle.sector.specs.declared.PageState.TheVariants.{Active}
 use Rattle.sector.specs.Header.{state_bytes}
 use Rattle.opening_reading.specs.Reading.{Item, item}
@@ -34,6 +33,7 @@ use Rattle.theorem_power_cut.proofs.Headers.{HeaderOpens, opens_of, header_opens
 use Rattle.theorem_power_cut.proofs.Accepted.{write_accepted}
 use Rattle.theorem_power_cut.proofs.Started.{page, start, next_is, Started}
 use Rattle.theorem_power_cut.proofs.Held.{Held}
+use Rattle.sector.specs.Answers.{Done}
 
 -- ---- an erased page
 

@@ -7,7 +7,6 @@ use Rattle.std.specs.Prelude.{◌≡◌, Bool, true, cond, ℕ, ◌-◌, ◌*◌
 use mathlib.Core.List.{List, [], ◌∷◌, ◌++◌, Memᴰ}
 use Rattle.flash.specs.Flash.{every}
 use Rattle.page.specs.Record.{Page, next_free}
-use Rattle.sector.specs.declared.Answer.TheVariants.{Done}
 use Rattle.sector.specs.Layout.{sector_size, entry_size, chunks}
 use Rattle.call_append.specs.declared.Single.{Single}
 use Rattle.call_append.specs.declared.Variable.{Variable}
@@ -17,6 +16,7 @@ use Rattle.theorem_writing.specs.Promises.{PutRequest, single, variable, copied,
 use Rattle.opening_reading.specs.Reading.{Item, item}
 use Rattle.opening_found.specs.Found.{kept_items}
 use Rattle.opening.specs.Opening.{opening, opening_image}
+use Rattle.sector.specs.Answers.{Done}
 
 -- ---- what a caller can hand in
 

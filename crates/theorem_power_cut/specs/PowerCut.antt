@@ -5,12 +5,12 @@
 -- What opening finds is the reading's kept items: index and bytes of each, namespace entries included.
 -- Each statement is a type; proofs/ has a proof of each.
 -- Assumes that a unit is done or not, and that a byte is stored as old AND new.
-use Rattle.std.specs.Prelude.{◌≡◌, true, cond, ◌⊎◌, ℕ, ◌+◌, ◌≤◌, ◌<◌, leb, length, take, drop}
+use Rattle.std.specs.Prelude.{◌≡◌, true, cond, ◌⊎◌, ℕ, ◌+◌, ◌≤◌, ◌<◌, leb, length, take, drop, Err}
 use mathlib.Core.List.{List, [], ◌∷◌, ◌++◌, Memᴰ}
 use Rattle.page.specs.Record.{Page, next_free, fit_to_use, uninitialized}
 use Rattle.page.specs.Writing.{answered}
-use Rattle.sector.specs.declared.Answer.TheVariants.{Done, CorruptedData, Stopped}
-use Rattle.sector.specs.Answers.{accepted}
+use Rattle.sector.specs.declared.Refusal.TheVariants.{CorruptedData, Stopped}
+use Rattle.sector.specs.Answers.{Done, accepted}
 use Rattle.sector.specs.Layout.{entries_per_page, map_offset, items_offset, entry_at}
 use Rattle.sector.specs.Types.{item_type, has_payload}
 use Rattle.call_load.specs.Load.{load_item}
@@ -93,7 +93,7 @@ abbrev pub InitialiseCut : Type 0
 InitialiseCut =
     (image : List ℕ) (page : Page) (sequence n : ℕ) → sequence < 0x1_0000_0000 → accepted (initialise_checks image page) ≡ true
     → (opening (initialise_image image page sequence n) ≡ answered Done uninitialized)
-    ⊎ ((opening (initialise_image image page sequence n) ≡ answered CorruptedData uninitialized)
+    ⊎ ((opening (initialise_image image page sequence n) ≡ answered (Err CorruptedData) uninitialized)
     ⊎ (initialise_image image page sequence n ≡ initialise_image image page sequence (length (initialise_plan sequence))))
 
 -- the finished page opens with the record that initialise hands back; it holds no item, and opening changes no byte: it is as opening leaves a page

@@ -1,4 +1,5 @@
 -- A refusal of load data and of opening changes nothing: where no check refuses the answer is Done or Stopped, and neither is a refusal.
+use Rattle.std.specs.Prelude.{Err}
 use mathlib.Core.Path.{◌≡◌, refl, ap}
 use mathlib.Core.Bool.{Bool, true, false, cond, false≢true}
 use mathlib.Core.List.{List, []}
@@ -9,7 +10,7 @@ use lib.Seq.{take-nil}
 use Rattle.flash.specs.Flash.{Unit4, run}
 use Rattle.page.specs.Record.{uninitialized}
 use Rattle.page.specs.Writing.{answered, stops}
-use Rattle.sector.specs.declared.Answer.TheVariants.{Stopped}
+use Rattle.sector.specs.declared.Refusal.TheVariants.{Stopped}
 use Rattle.sector.specs.Answers.{accepted}
 use Rattle.call_load_data.specs.Payload.{data_checks, data_answer, data_output}
 use Rattle.opening_found.specs.declared.HeaderVerdict.{HeaderVerdict}
@@ -36,9 +37,9 @@ nothing_run n image = ap (λ (plan : List Unit4). run plan image) (take-nil n)
 
 -- by the header's verdict, and by whether opening is stopped
 refused_verdict : (verdict : HeaderVerdict) (stopped : Bool) (image : List ℕ) (n : ℕ)
-    → is_refusal (cond stopped (answered Stopped uninitialized) (answer_for verdict image)).answer ≡ true
+    → is_refusal (cond stopped (answered (Err Stopped) uninitialized) (answer_for verdict image)).answer ≡ true
     → (run (take n (plan_for verdict image)) image ≡ image)
-    × ((cond stopped (answered Stopped uninitialized) (answer_for verdict image)).page ≡ uninitialized)
+    × ((cond stopped (answered (Err Stopped) uninitialized) (answer_for verdict image)).page ≡ uninitialized)
 refused_verdict verdict true image n h = absurd (false≢true h)
 refused_verdict Blank false image n h = absurd (false≢true h)
 refused_verdict Opens false image n h = absurd (false≢true h)

@@ -2,12 +2,12 @@
 --
 -- In order: what is unknown; which entries load; the calls; the reading.
 -- Each statement is a type; proofs/ has a proof of each.
-use Rattle.std.specs.Prelude.{◌≡◌, true, false, ◌&&◌, not, ℕ, ◌<◌, length}
+use Rattle.std.specs.Prelude.{◌≡◌, true, false, ◌&&◌, not, ℕ, ◌<◌, length, Err}
 use mathlib.Core.List.{List, Memᴰ}
 use Rattle.flash.specs.Flash.{all_ones}
 use Rattle.page.specs.Record.{Page, fit_to_use}
 use Rattle.page.specs.Writing.{answered}
-use Rattle.sector.specs.declared.Answer.TheVariants.{KeyNotFound}
+use Rattle.sector.specs.declared.Refusal.TheVariants.{KeyNotFound}
 use Rattle.sector.specs.declared.EntryMapState.{EntryMapState}
 use Rattle.sector.specs.declared.EntryMapState.TheVariants.{Written}
 use Rattle.sector.specs.declared.ItemType.{ItemType}
@@ -45,7 +45,7 @@ KnownLoads = (entry : List ℕ) (t : ItemType) → type_byte_of entry ≡ byte_o
 abbrev pub UnknownIsNotFound : Type 0
 UnknownIsNotFound =
     (image : List ℕ) (index room : ℕ) → length image ≡ sector_size → index < entries_per_page → Unknown (entry_at image index)
-    → (load_item image index ≡ refused_item KeyNotFound) × (data_answer image index room ≡ record { answer = KeyNotFound; size = 0 })
+    → (load_item image index ≡ refused_item (Err KeyNotFound)) × (data_answer image index room ≡ record { answer = Err KeyNotFound; size = 0 })
 
 -- copy in too, where none of its earlier checks refuses
 abbrev pub UnknownIsNotCopied : Type 0
@@ -53,7 +53,7 @@ UnknownIsNotCopied =
     (image : List ℕ) (page : Page) (source : List ℕ) (index n : ℕ)
     → length image ≡ sector_size → length source ≡ sector_size → fit_to_use page ≡ true → is_active page.state ≡ true → index < entries_per_page
     → Unknown (entry_at source index)
-    → (copy_in image page source index n ≡ answered KeyNotFound page) × (copy_in_image image page source index n ≡ image)
+    → (copy_in image page source index n ≡ answered (Err KeyNotFound) page) × (copy_in_image image page source index n ≡ image)
 
 -- purge by namespace neither zeroes it as a header nor takes its span
 abbrev pub UnknownIsNotPurged : Type 0

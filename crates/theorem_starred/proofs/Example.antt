@@ -19,7 +19,6 @@ use Rattle.opening.specs.Opening.{opened_map, first_map, opening_plan, opened_pa
 use Rattle.page.specs.Record.{Page, next_free, fit_to_use, with_item, without, with_erased}
 use Rattle.page.specs.Writing.{item_plan}
 use Rattle.opening_reading.specs.Reading.{header_refusal, payload_refusal, Item, item, opened_states}
-use Rattle.sector.specs.declared.Answer.TheVariants.{Done}
 use Rattle.sector.specs.Header.{state_of_word, header_crc, header_bytes}
 use Rattle.sector.specs.Item.{item_crc, hash_of, loads, item_bytes, sized_data}
 use Rattle.sector.specs.Layout.{chunks}
@@ -27,6 +26,7 @@ use Rattle.sector.specs.Map.{count_in, mark_range, map_units}
 use Rattle.sector.specs.Types.{item_type}
 use Rattle.theorem_starred.specs.Edges.{fresh_image, single, sized}
 use Rattle.theorem_power_cut.specs.History.{all_bytes, SingleRequest, VariableRequest, KeptIn, a_single, a_variable, a_copy, entries_of_write, History, opened, written, erased}
+use Rattle.sector.specs.Answers.{Done}
 
 -- ---- the requests
 

@@ -16,8 +16,8 @@ use Rattle.flash.proofs.Laws.{neither}
 use Rattle.page.specs.Record.{Page, next_free, fit_to_use}
 use Rattle.page.specs.Writing.{bad_image, bad_record, not_active, over_free, outcome, image_after, stops}
 use Rattle.page.proofs.Checks.{Usable, accepted_room, accepted_usable}
-use Rattle.sector.specs.declared.Answer.TheVariants.{Done, BadImage, KeyNotFound, CorruptedData, ValueTooLong, Stopped}
-use Rattle.sector.specs.Answers.{Check, refusal, accepted}
+use Rattle.sector.specs.declared.Refusal.TheVariants.{BadImage, KeyNotFound, CorruptedData, ValueTooLong, Stopped}
+use Rattle.sector.specs.Answers.{Done, Check, refusal, accepted}
 use Rattle.sector.specs.Header.{is_active}
 use Rattle.sector.specs.Item.{loads}
 use Rattle.sector.specs.Layout.{entry_at, span_of}

@@ -14,13 +14,12 @@ use borrow.Author.Tests.{ltb-true, ltb-false, lt-ltb, not-false}
 use Rattle.flash.specs.Flash.{every}
 use Rattle.flash.proofs.Laws.{Bytes, bytes_nil, bytes_cons, every_append, every_drop, neither}
 use Rattle.page.specs.declared.Listed.{Listed}
-use Rattle.page.specs.declared.Outcome.{Outcome}
 use Rattle.sector.specs.Header.{is_uninitialized, is_active, is_in_use}
 use Rattle.page.specs.Record.{Page, next_free, no_item, place_fits, place_zero, without, in_use, blank_fits, fit_to_use, with_item, with_erased}
-use Rattle.page.specs.Writing.{bad_image, bad_record, stops}
+use Rattle.page.specs.Writing.{Outcome, bad_image, bad_record, stops}
 use Rattle.page.proofs.Checks.{accepted_usable}
 use Rattle.page.proofs.Laws.{Fit, fit_clauses, fit_of}
-use Rattle.sector.specs.declared.Answer.TheVariants.{BadImage, BadRecord, CorruptedData, NotWritten}
+use Rattle.sector.specs.declared.Refusal.TheVariants.{BadImage, BadRecord, CorruptedData, NotWritten}
 use Rattle.sector.specs.declared.EntryMapState.TheVariants.{Written, Erased}
 use Rattle.sector.specs.declared.PageState.{PageState}
 use Rattle.sector.specs.declared.PageState.TheVariants.{Uninitialized, Active, Full, Freeing, Corrupt, Invalid}

@@ -1,6 +1,7 @@
 -- The promises of the writing calls are proved: a call is its checks, the first of its units, and its new record, whichever call it is.
 --
 -- In order as in specs/Promises.antt.
+use Rattle.std.specs.Prelude.{Err}
 use mathlib.Core.Path.{◌≡◌, refl, sym, ap, ◌∙◌, subst}
 use mathlib.Core.Bool.{Bool, true, false, not, cond, false≢true, and-eq-true_iff}
 use mathlib.Core.List.{List, [], ◌∷◌, ◌++◌}
@@ -14,12 +15,10 @@ use lib.Seq.{take_all}
 use borrow.Author.Tests.{ltb-true, ltb-false, lt-ltb, le-ltb, not-true}
 use Rattle.flash.specs.Flash.{Unit4, run, every, OnlyClears, clears_nil, clears_cons}
 use Rattle.flash.proofs.Laws.{clears_refl, clears_run, length_run, Outside, outside_take}
-use Rattle.page.specs.declared.Outcome.{Outcome}
 use Rattle.page.specs.Record.{Page, free}
-use Rattle.page.specs.Writing.{bad_image, over_free, answered, outcome, image_after, stops}
-use Rattle.sector.specs.declared.Answer.{Answer}
-use Rattle.sector.specs.declared.Answer.TheVariants.{BadImage, ValueTooLong, PageFull, Stopped}
-use Rattle.sector.specs.Answers.{number_of, Check, refusal, accepted}
+use Rattle.page.specs.Writing.{Outcome, bad_image, over_free, answered, outcome, image_after, stops}
+use Rattle.sector.specs.declared.Refusal.TheVariants.{BadImage, ValueTooLong, PageFull, Stopped}
+use Rattle.sector.specs.Answers.{Answer, number_of, Check, refusal, accepted}
 use Rattle.sector.specs.Layout.{entry_at, span_of}
 use Rattle.sector.proofs.Laws.{accepted_append, refusal_append}
 use Rattle.call_page_state.specs.Calls.{initialise_checks, initialise_plan, initialised, initialise}
@@ -67,7 +66,7 @@ stopped_leaves_first call image page n h =
     by_count count total (inr e) b = absurd (omega arith)
 
 below_total : (checks : List Check) (plan : List Unit4) (page new : Page) (n : ℕ) → accepted checks ≡ true → n < length plan
-    → outcome checks (stops n plan) page new ≡ answered Stopped page
+    → outcome checks (stops n plan) page new ≡ answered (Err Stopped) page
 below_total checks plan page new n a h = rw (a, lt-ltb n (length plan) h)
 
 pub stops_below_total : StopsBelowTotal

@@ -3,16 +3,14 @@
 -- In order: the calls, each read off its own crate; the total; 11, and 1 to 10; PageFull; cleared bits; the order of units; the bytes that are
 -- reached; fit records. Purge by index takes no record, and stands beside the others where it writes.
 -- Each statement is a type; proofs/ has a proof of each.
-use Rattle.std.specs.Prelude.{◌≡◌, Bool, true, false, ◌&&◌, ◌||◌, not, cond, List, [], ◌∷◌, ◌++◌, ◌⊎◌, ℕ, zero, suc, ◌+◌, ◌-◌, ◌*◌, ◌/◌, ◌≤◌, ◌<◌, eqb, leb, ltb, length, take, get_or, replicate}
+use Rattle.std.specs.Prelude.{◌≡◌, Bool, true, false, ◌&&◌, ◌||◌, not, cond, List, [], ◌∷◌, ◌++◌, ◌⊎◌, ℕ, zero, suc, ◌+◌, ◌-◌, ◌*◌, ◌/◌, ◌≤◌, ◌<◌, eqb, leb, ltb, length, take, get_or, replicate, Err}
 use Rattle.std.specs.Int.Bits.{bit_and}
 use Rattle.flash.specs.Flash.{Unit4, unit, units, run, every}
-use Rattle.page.specs.declared.Outcome.{Outcome}
 use Rattle.page.specs.Record.{Page, next_free, free, fit_to_use, with_erased}
-use Rattle.page.specs.Writing.{bad_image, bad_record, not_active, answered, outcome, image_after, full_units}
-use Rattle.sector.specs.declared.Answer.{Answer}
-use Rattle.sector.specs.declared.Answer.TheVariants.{Done, CorruptedData, KeyNotFound, PageFull, Stopped}
+use Rattle.page.specs.Writing.{Outcome, bad_image, bad_record, not_active, answered, outcome, image_after, full_units}
+use Rattle.sector.specs.declared.Refusal.TheVariants.{CorruptedData, KeyNotFound, PageFull, Stopped}
 use Rattle.sector.specs.declared.EntryMapState.TheVariants.{Written}
-use Rattle.sector.specs.Answers.{Check, number_of, accepted}
+use Rattle.sector.specs.Answers.{Done, Answer, Check, number_of, accepted}
 use Rattle.sector.specs.Item.{loads}
 use Rattle.sector.specs.Layout.{entries_per_page, entry_size, map_offset, entry_address, entry_at, entries_of, span_of}
 use Rattle.sector.specs.Map.{states_of, mark_range, map_units}
@@ -130,7 +128,7 @@ takes_n (purging namespace) = false
 abbrev pub StopsBelowTotal : Type 0
 StopsBelowTotal =
     (call : Call) (image : List ℕ) (page : Page) (n : ℕ) → takes_n call ≡ true
-    → accepted (checks_of call image page) ≡ true → n < length (plan_of call image page) → outcome_of call image page n ≡ answered Stopped page
+    → accepted (checks_of call image page) ≡ true → n < length (plan_of call image page) → outcome_of call image page n ≡ answered (Err Stopped) page
 
 -- 1 to 10
 abbrev pub is_refusal : Answer → Bool

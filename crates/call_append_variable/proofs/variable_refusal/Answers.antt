@@ -9,7 +9,7 @@ use borrow.Author.Tests.{lt-ltb, le-ltb}
 use Rattle.page.specs.Record.{Page}
 use Rattle.page.specs.Writing.{over_free}
 use Rattle.sector.proofs.Laws.{accepted_done, refusal_refused, refusal_passed}
-use Rattle.sector.specs.declared.Answer.TheVariants.{ValueTooLong}
+use Rattle.sector.specs.declared.Refusal.TheVariants.{ValueTooLong}
 use Rattle.sector.specs.Answers.{Check, accepted}
 use Rattle.sector.specs.Layout.{entries_per_page}
 use Rattle.call_append.specs.declared.Variable.{Variable}

@@ -15,7 +15,7 @@ returns-then-not-fit_to_use c =
 
 pub returns-then-not-is_in_use : goal.returns-then-not-is_in_use
 returns-then-not-is_in_use c =
-    let fit : fit_to_use c.args.page ≡ true = sym c.fit_to_use.ensures ∙ c.if-not-fit_to_use.false in
+    let fit : fit_to_use c.args.page.now ≡ true = sym c.fit_to_use.ensures ∙ c.if-not-fit_to_use.false in
     rw (
       eq-eqb _ _ c.if-image-ne-SECTOR_SIZE.false,
       fit,
@@ -24,7 +24,7 @@ returns-then-not-is_in_use c =
 
 pub returns : goal.returns
 returns c =
-    let fit : fit_to_use c.args.page ≡ true = sym c.fit_to_use.ensures ∙ c.if-not-fit_to_use.false in
+    let fit : fit_to_use c.args.page.now ≡ true = sym c.fit_to_use.ensures ∙ c.if-not-fit_to_use.false in
     rw (
       eq-eqb _ _ c.if-image-ne-SECTOR_SIZE.false,
       fit,

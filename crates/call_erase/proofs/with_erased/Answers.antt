@@ -2,6 +2,7 @@
 use mathlib.Core.Path.{◌≡◌}
 use Prim.Native.Nat.{◌≤◌}
 use native.Mathlib.Omega.{arith}
+use borrow.Author.Rules.{rules}
 use lib.ListN.{length}
 use Rattle.page.specs.Record.{with_erased}
 use Rattle.page.proofs.Laws.{Fit, fit_clauses}
@@ -10,28 +11,19 @@ use Rattle.call_erase.proofs.with_erased.Goals as goal
 
 pub without-places-requires : goal.without-places-requires
 without-places-requires c =
-    let fit : Fit c.args.page = fit_clauses c.args.page c.requires.0 in
-    let clauses = fit in omega arith
-
-pub overflow_sub-result : goal.overflow_sub-result
-overflow_sub-result c =
-    let fit : Fit c.args.page = fit_clauses c.args.page c.requires.0 in
-    let long : length c.args.page.map ≡ 32 = c.well_formed.0.1.1.1.1.1.1.0.1.0.1 in
-    let used : c.args.span ≤ c.args.page.used = let clauses = fit in
-    omega (arith, written_le c.args.page.map c.args.index c.args.span long c.requires.1 c.requires.2) in
-    used
-
-pub overflow_add-result : goal.overflow_add-result
-overflow_add-result c =
-    let fit : Fit c.args.page = fit_clauses c.args.page c.requires.0 in
-    let long : length c.args.page.map ≡ 32 = c.well_formed.0.1.1.1.1.1.1.0.1.0.1 in
-    let used : c.args.span ≤ c.args.page.used = let clauses = fit in
-    omega (arith, written_le c.args.page.map c.args.index c.args.span long c.requires.1 c.requires.2) in
-    let clauses = fit in
-    let less = used in
+    let fit : Fit c.args.page.now = fit_clauses c.args.page.now c.requires.0 in
     omega arith
+
+pub overflow_sub-new : goal.overflow_sub-new
+overflow_sub-new c =
+    let fit : Fit c.args.page.now = fit_clauses c.args.page.now c.requires.0 in
+    omega (arith, written_le c.args.page.now.map c.args.index c.args.span (search rules) c.requires.1 c.requires.2)
+
+pub overflow_add-new : goal.overflow_add-new
+overflow_add-new c =
+    let fit : Fit c.args.page.now = fit_clauses c.args.page.now c.requires.0 in
+    omega (arith, written_le c.args.page.now.map c.args.index c.args.span (search rules) c.requires.1 c.requires.2)
 
 pub returns : goal.returns
 unfolding with_erased
-returns c =
-    rw (c.without-places.ensures.0, c.without-places.ensures.1, c.mark_range-map.ensures)
+returns c = rw (c.without-places.ensures.0, c.without-places.ensures.1, c.mark_range-new.ensures)

@@ -5,14 +5,11 @@ use mathlib.Core.List.{List, ◌++◌}
 use Prim.Native.Nat.{ℕ, ◌+◌, ◌≤◌}
 use native.Mathlib.Omega.{arith}
 use lib.ListN.{length, take, drop}
-use Rattle.sector.specs.declared.Answer.{Answer}
-use Rattle.sector.specs.Answers.{Check, refusal, accepted}
+use Rattle.sector.specs.Answers.{Answer, Check, refusal, accepted}
 use Rattle.sector.specs.Layout.{entry_at, size_of}
 use Rattle.sector.proofs.Laws.{accepted_append, refusal_append, refusal_accepted, accepted_done}
-use Rattle.call_load_data.specs.declared.DataLoaded.{DataLoaded}
-use Rattle.call_load.specs.declared.Loaded.{Loaded}
-use Rattle.call_load_data.specs.Payload.{rounded_up, payload_checks, data_checks, data_answer, data_output}
-use Rattle.call_load.specs.Load.{load_checks, load_item}
+use Rattle.call_load_data.specs.Payload.{DataLoaded, rounded_up, payload_checks, data_checks, data_answer, data_output}
+use Rattle.call_load.specs.Load.{Loaded, load_checks, load_item}
 use Rattle.call_load_data.proofs.Laws.{DataFits, data_fits, data_inside, length_part, part_copied}
 use Rattle.call_load.proofs.Laws.{loaded_or_answer, loaded_or_item, load_fits}
 use Rattle.call_load_data.proofs.load_referenced_data_into.Goals as goal

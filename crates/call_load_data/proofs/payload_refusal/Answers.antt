@@ -5,9 +5,9 @@ use Prim.Native.Nat.{ℕ, ◌+◌, ◌-◌, ◌*◌}
 use native.Mathlib.Omega.{arith}
 use borrow.Author.Tests.{eq-eqb, ne_eqb, lt-ltb, le-ltb, not-true, not-false}
 use lib.Dec.{ltb}
-use Rattle.sector.specs.declared.Answer.TheVariants.{Done, CorruptedData}
+use Rattle.sector.specs.declared.Refusal.TheVariants.{CorruptedData}
 use Rattle.sector.specs.declared.Kind.{Kind}
-use Rattle.sector.specs.Answers.{refusal}
+use Rattle.sector.specs.Answers.{Done, refusal}
 use Rattle.sector.specs.Layout.{entries_per_page, entry_size, span_of, type_byte_of}
 use Rattle.sector.specs.Types.{kind_of, item_type, has_payload}
 use Rattle.call_load_data.specs.Payload.{rounded_up, payload_checks}

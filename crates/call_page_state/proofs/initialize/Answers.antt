@@ -10,7 +10,7 @@ use Rattle.flash.specs.Flash.{run, all_ones}
 use Rattle.page.specs.Writing.{stops}
 use Rattle.sector.proofs.Laws.{accepted_done}
 use Rattle.page.proofs.Checks.{accepted_usable, call_refused, call_ended}
-use Rattle.sector.specs.declared.Answer.TheVariants.{CorruptedData}
+use Rattle.sector.specs.declared.Refusal.TheVariants.{CorruptedData}
 use Rattle.sector.specs.Answers.{accepted}
 use Rattle.sector.specs.Header.{header_crc, header_body, header_bytes, is_uninitialized}
 use Rattle.sector.specs.Item.{crc_start}

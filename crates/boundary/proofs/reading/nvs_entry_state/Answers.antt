@@ -3,8 +3,7 @@ use mathlib.Core.Path.{refl, ap, ◌∙◌}
 use borrow.Author.Rules.{rules}
 use mathlib.Core.List.{List}
 use Prim.Native.Nat.{ℕ}
-use Rattle.sector.specs.declared.StateAnswer.{StateAnswer}
-use Rattle.sector.specs.Map.{bits_of, entry_state}
+use Rattle.sector.specs.Map.{StateAnswer, bits_of, entry_state}
 use Rattle.boundary_encoding.specs.Encoding.{zero_item}
 use Rattle.boundary.specs.Boundary.{state_given}
 use Rattle.boundary.proofs.Laws.{wrong_size_lem, right_size, given_of}

@@ -1,9 +1,9 @@
 -- `nvs_load` meets its contract: a wrong size changes nothing, else the call's answer is laid out.
 use mathlib.Core.Path.{refl}
 use borrow.Author.Rules.{rules}
-use Rattle.call_load.specs.declared.Loaded.{Loaded}
 use Rattle.boundary.specs.Boundary.{load_given}
 use Rattle.boundary.proofs.Laws.{wrong_size_lem, right_size, given_of}
+use Rattle.call_load.specs.Load.{Loaded}
 use Rattle.boundary.proofs.reading.nvs_load.Goals as goal
 
 pub returns-then-buffer-ne-ANSWER_SIZE : goal.returns-then-buffer-ne-ANSWER_SIZE

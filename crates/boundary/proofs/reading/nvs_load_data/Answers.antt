@@ -1,10 +1,10 @@
 -- `nvs_load_data` meets its contract: a wrong size changes nothing, else the call's answer is laid out.
 use mathlib.Core.Path.{refl}
 use borrow.Author.Rules.{rules}
-use Rattle.call_load_data.specs.declared.DataLoaded.{DataLoaded}
 use Rattle.boundary_encoding.specs.Encoding.{zero_item}
 use Rattle.boundary.specs.Boundary.{data_given, data_left}
 use Rattle.boundary.proofs.Laws.{wrong_size_lem, right_size, given_of}
+use Rattle.call_load_data.specs.Payload.{DataLoaded}
 use Rattle.boundary.proofs.reading.nvs_load_data.Goals as goal
 
 pub returns-then-buffer-ne-ANSWER_SIZE : goal.returns-then-buffer-ne-ANSWER_SIZE

@@ -1,10 +1,10 @@
 -- `nvs_width` meets its contract: a wrong size changes nothing, else the call's answer is laid out.
 use mathlib.Core.Path.{refl}
 use borrow.Author.Rules.{rules}
-use Rattle.sector.specs.declared.WidthAnswer.{WidthAnswer}
 use Rattle.boundary_encoding.specs.Encoding.{zero_item}
 use Rattle.boundary.specs.Boundary.{width_given}
 use Rattle.boundary.proofs.Laws.{wrong_size_lem, right_size, given_of}
+use Rattle.sector.specs.Types.{WidthAnswer}
 use Rattle.boundary.proofs.reading.nvs_width.Goals as goal
 
 pub returns-then-buffer-ne-ANSWER_SIZE : goal.returns-then-buffer-ne-ANSWER_SIZE

@@ -3,11 +3,11 @@ use mathlib.Core.Path.{refl, ap, ◌∙◌}
 use Prim.Native.Nat.{ℕ}
 use borrow.Author.Rules.{rules}
 use mathlib.Core.List.{List}
-use Rattle.sector.specs.declared.Answer.TheVariants.{Done}
 use Rattle.sector.specs.Item.{hash_of}
 use Rattle.boundary_encoding.specs.Encoding.{zero_item}
 use Rattle.boundary.specs.Boundary.{hash_given}
 use Rattle.boundary.proofs.Laws.{wrong_size_lem, right_size, given_of}
+use Rattle.sector.specs.Answers.{Done}
 use Rattle.boundary.proofs.sums.nvs_hash.Goals as goal
 
 pub returns-then-buffer-ne-ANSWER_SIZE : goal.returns-then-buffer-ne-ANSWER_SIZE

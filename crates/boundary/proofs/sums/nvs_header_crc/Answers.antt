@@ -2,11 +2,11 @@
 use mathlib.Core.Path.{refl, ap, ◌∙◌}
 use Prim.Native.Nat.{ℕ}
 use borrow.Author.Rules.{rules}
-use Rattle.sector.specs.declared.Answer.TheVariants.{Done}
 use Rattle.sector.specs.Header.{header_crc}
 use Rattle.boundary_encoding.specs.Encoding.{zero_item}
 use Rattle.boundary.specs.Boundary.{header_crc_given}
 use Rattle.boundary.proofs.Laws.{wrong_size_lem, right_size, given_of}
+use Rattle.sector.specs.Answers.{Done}
 use Rattle.boundary.proofs.sums.nvs_header_crc.Goals as goal
 
 pub returns-then-buffer-ne-ANSWER_SIZE : goal.returns-then-buffer-ne-ANSWER_SIZE
