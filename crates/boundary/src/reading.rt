@@ -71,7 +71,7 @@ pub fn nvs_entry_state(bytes: &[u8], index: u64, buffer: &mut [u8]) -> u32
     if bytes.len() != MAP_SIZE {
         return BAD_CALL;
     }
-    let found = sector_map::get_entry_state(bytes::array_32(bytes), index as usize);
+    let found = sector_map::get_entry_state(bytes::array_of(bytes), index as usize);
     let answer = found.answer;
     let state = found.state;
     boundary_results::give(buffer, answer, sector_map::bits_of(state) as u64, NO_ITEM)
@@ -88,7 +88,7 @@ pub fn nvs_statistics(bytes: &[u8], buffer: &mut [u8]) -> u32
     if bytes.len() != MAP_SIZE {
         return BAD_CALL;
     }
-    let counts = sector_map::get_entry_statistics(bytes::array_32(bytes));
+    let counts = sector_map::get_entry_statistics(bytes::array_of(bytes));
     boundary_encoding::put_answer(buffer, 0, 0, NO_ITEM, counts);
     0
 }
@@ -108,7 +108,7 @@ pub fn nvs_hash_bound(bytes: &[u8], entries: &[u8], buffer: &mut [u8]) -> u32
         return BAD_CALL;
     }
     let count = call_hash_bound::hashed_item_bound(
-        bytes::array_32(bytes),
+        bytes::array_of(bytes),
         boundary_encoding::entries_of(entries),
     );
     boundary_results::give(buffer, Answer::Done, count as u64, NO_ITEM)

@@ -25,7 +25,7 @@ pub fn nvs_item_crc(bytes: &[u8], buffer: &mut [u8]) -> u32
     if bytes.len() != ENTRY_SIZE {
         return BAD_CALL;
     }
-    let crc = sector_item::item_crc(bytes::array_32(bytes));
+    let crc = sector_item::item_crc(bytes::array_of(bytes));
     boundary_results::give(buffer, Answer::Done, crc as u64, NO_ITEM)
 }
 
@@ -40,7 +40,7 @@ pub fn nvs_header_crc(bytes: &[u8], buffer: &mut [u8]) -> u32
     if bytes.len() != ENTRY_SIZE {
         return BAD_CALL;
     }
-    let crc = sector_header::header_crc(bytes::array_32(bytes));
+    let crc = sector_header::header_crc(bytes::array_of(bytes));
     boundary_results::give(buffer, Answer::Done, crc as u64, NO_ITEM)
 }
 
@@ -55,7 +55,7 @@ pub fn nvs_hash(namespace: u8, key: &[u8], chunk: u8, buffer: &mut [u8]) -> u32
     if key.len() != KEY_SIZE {
         return BAD_CALL;
     }
-    let hash = sector_hash::calculate_hash(namespace, bytes::array_16(key), chunk);
+    let hash = sector_hash::calculate_hash(namespace, bytes::array_of(key), chunk);
     boundary_results::give(buffer, Answer::Done, hash as u64, NO_ITEM)
 }
 

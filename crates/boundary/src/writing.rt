@@ -94,8 +94,8 @@ pub fn nvs_append_single(
         kind,
         span: span as usize,
         chunk,
-        key: bytes::array_16(key),
-        bytes: bytes::array_8(bytes),
+        key: bytes::array_of(key),
+        bytes: bytes::array_of(bytes),
     };
     let page = boundary_encoding::record_of(&buffer[..]);
     let outcome = call_append::write_item(image, page, item, stop as usize);
@@ -120,7 +120,7 @@ pub fn nvs_append_namespace(
     if key.len() != KEY_SIZE {
         return BAD_CALL;
     }
-    let name = bytes::array_16(key);
+    let name = bytes::array_of(key);
     let page = boundary_encoding::record_of(&buffer[..]);
     let outcome = call_append::write_namespace(image, page, name, value, stop as usize);
     boundary_results::hand_back(buffer, outcome)
@@ -151,7 +151,7 @@ pub fn nvs_append_variable(
         namespace,
         kind,
         chunk,
-        key: bytes::array_16(key),
+        key: bytes::array_of(key),
     };
     let page = boundary_encoding::record_of(&buffer[..]);
     let outcome = call_append_variable::write_variable_sized_item(

@@ -93,7 +93,7 @@ pub fn entries_of(bytes: &[u8]) -> [[u8; 32]; 126]
     for k in 0..126usize {
         let start = ENTRY_SIZE * k;
         let end = start + ENTRY_SIZE;
-        entries[k] = bytes::array_32(&bytes[start..end]);
+        entries[k] = bytes::array_of(&bytes[start..end]);
     }
     entries
 }
@@ -128,7 +128,7 @@ pub fn record_of(bytes: &[u8]) -> ThinPage
     ensures { result ≡ record_of bytes.now }
 {
     let state = state_of_byte(bytes[STATE_OFFSET]);
-    let map = bytes::array_32(&bytes[MAP_OFFSET..USED_OFFSET]);
+    let map = bytes::array_of(&bytes[MAP_OFFSET..USED_OFFSET]);
     let list = places_of(bytes);
     ThinPage {
         state,

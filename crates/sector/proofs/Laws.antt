@@ -1,7 +1,7 @@
 -- Laws of the sector's definitions, in the order of specs/: Layout, Answers, Map, Item; after Layout, bytes laid over others, repeated and copied.
 -- Not here: what a run of marks does to each state (Marks).
 use mathlib.Core.Path.{◌≡◌, refl, sym, ap, ◌∙◌}
-use mathlib.Core.Bool.{Bool, true, false, ◌&&◌, not, cond, and-false, and-eq-true_iff, false≢true}
+use mathlib.Core.Bool.{Bool, true, false, ◌&&◌, cond, and-false, false≢true}
 use mathlib.Core.List.{List, [], ◌∷◌, ◌++◌, append-nil}
 use Prim.Native.Nat.{ℕ, zero, suc, ◌+◌, ◌*◌, ◌/◌, ◌%◌, ◌^◌, ◌<◌, ◌≤◌}
 use native.Mathlib.Nat.{le_of_suc-le-suc, not-suc-le-zero, div-one, div-lt_iff_lt-mul, pow-suc}
@@ -9,9 +9,9 @@ use native.Mathlib.Numerals.{add-one}
 use native.Mathlib.Omega.{arith}
 use lib.ListN.{length, get_or, take, drop, length-append, length-take, length-drop, length-set, drop_of_length-le}
 use lib.Dec.{eqb}
-use lib.Seq.{drop-cons, drop-length, drop-drop, take-take, take_at, get_or-take}
-use borrow.Author.Tests.{eq-eqb, ne_eqb, not-true}
-use Rattle.flash.specs.Flash.{every}
+use lib.Pointwise.{pointwise}
+use lib.Seq.{drop-cons, drop-drop, take-take, take_at, get_or-take}
+use borrow.Author.Tests.{ne_eqb}
 pub use Rattle.flash.proofs.Lists.{drop_replicate, copied_next, pow_four}
 use Rattle.flash.proofs.Lists.{Bytes, bytes_nil, bytes_cons}
 use Rattle.std.specs.Prelude.{is_ok}
@@ -45,7 +45,7 @@ pub field_cons : (offset n : ℕ) (bytes : List ℕ) → offset < length bytes
     → field offset (suc n) bytes ≡ get_or bytes offset 0 ∷ field (offset + 1) n bytes
 field_cons offset n bytes h = rw (drop-cons bytes offset 0 h, add-one offset)
 
--- ---- bytes compared, from k on, one after the other
+-- ---- bytes compared
 
 -- lists of two lengths are not the same
 pub same_bytes-length : (xs ys : List ℕ) → (length xs ≡ length ys → ⊥) → same_bytes xs ys ≡ false
@@ -55,20 +55,17 @@ same_bytes-length (x ∷ xs) [] h = refl
 same_bytes-length (x ∷ xs) (y ∷ ys) h =
     ap (λ (b : Bool). eqb x y && b) (same_bytes-length xs ys (λ e. h (ap suc e))) ∙ and-false (eqb x y)
 
-module _ (xs ys : List ℕ) (k : ℕ) (inside : k < length xs) (within : k < length ys) where
-  -- two lists from k on: their first elements, and what is after them
-  same_bytes-drop : same_bytes (drop k xs) (drop k ys) ≡ (eqb (get_or xs k 0) (get_or ys k 0) && same_bytes (drop (k + 1) xs) (drop (k + 1) ys))
-  same_bytes-drop = rw (add-one k, drop-cons xs k 0 inside, drop-cons ys k 0 within)
+-- two lists from k on: their first elements, and what is after them
+pub same_bytes-drop : (xs ys : List ℕ) (k : ℕ) → k < length xs → k < length ys
+    → same_bytes (drop k xs) (drop k ys) ≡ (eqb (get_or xs k 0) (get_or ys k 0) && same_bytes (drop (k + 1) xs) (drop (k + 1) ys))
+same_bytes-drop xs ys k inside within = rw (add-one k, drop-cons xs k 0 inside, drop-cons ys k 0 within)
 
-  pub same_bytes_pass : get_or xs k 0 ≡ get_or ys k 0 → same_bytes (drop k xs) (drop k ys) ≡ same_bytes (drop (k + 1) xs) (drop (k + 1) ys)
-  same_bytes_pass e = same_bytes-drop ∙ ap (λ (b : Bool). b && same_bytes (drop (k + 1) xs) (drop (k + 1) ys)) (eq-eqb _ _ e)
-
-  pub same_bytes_differ : (get_or xs k 0 ≡ get_or ys k 0 → ⊥) → same_bytes (drop k xs) (drop k ys) ≡ false
-  same_bytes_differ h = same_bytes-drop ∙ ap (λ (b : Bool). b && same_bytes (drop (k + 1) xs) (drop (k + 1) ys)) (ne_eqb _ _ h)
-
--- two lists that end at k
-pub same_bytes_end : (xs ys : List ℕ) (k : ℕ) → k ≡ length xs → length xs ≡ length ys → same_bytes (drop k xs) (drop k ys) ≡ true
-same_bytes_end xs ys k e f = rw (e, drop-length xs, f, drop-length ys)
+-- the library compares lists of bytes pair by pair
+pub same_bytes_pairs : (xs ys : List ℕ) → pointwise eqb xs ys ≡ same_bytes xs ys
+same_bytes_pairs [] [] = refl
+same_bytes_pairs [] (y ∷ ys) = sym (ne_eqb (suc (length ys)) 0 (λ e. omega arith))
+same_bytes_pairs (x ∷ xs) [] = refl
+same_bytes_pairs (x ∷ xs) (y ∷ ys) = ap (λ (rest : Bool). eqb x y && rest) (same_bytes_pairs xs ys)
 
 -- ---- the entries of an image
 
@@ -118,12 +115,6 @@ field-entry_at image i offset size h =
 
 abbrev pub over : List ℕ → ℕ → List ℕ → List ℕ
 over out offset bytes = take offset out ++ (bytes ++ drop (offset + length bytes) out)
-
--- as many bytes as there are take all their places
-pub over_whole : (out bytes : List ℕ) → length bytes ≡ length out → over out 0 bytes ≡ bytes
-over_whole out bytes h =
-    let all : length out ≤ 0 + length bytes = omega (arith, h) in
-    rw (drop_of_length-le out all, append-nil bytes)
 
 -- two runs of bytes, one after the other, fill what they are laid over
 pub over_both : (out first second : List ℕ) (n : ℕ) → length first ≡ n → length out ≡ n + length second

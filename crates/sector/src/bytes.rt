@@ -6,44 +6,14 @@ ghost use Rattle.sector.specs.Layout.{number, field, little_endian, same_bytes};
 pub fn little_endian(word: u32) -> [u8; 4]
     ensures { result ≡ little_endian 4 word }
 {
-    let second = word / 256;
-    let third = second / 256;
-    let fourth = third / 256;
-    [
-        (word % 256) as u8,
-        (second % 256) as u8,
-        (third % 256) as u8,
-        (fourth % 256) as u8,
-    ]
+    word.to_le_bytes()
 }
 
 // The eight bytes of a number, lowest first (`u64::to_le_bytes`).
 pub fn little_endian_8(word: u64) -> [u8; 8]
     ensures { result ≡ little_endian 8 word }
 {
-    let second = word / 256;
-    let third = second / 256;
-    let fourth = third / 256;
-    let fifth = fourth / 256;
-    let sixth = fifth / 256;
-    let seventh = sixth / 256;
-    let eighth = seventh / 256;
-    [
-        (word % 256) as u8,
-        (second % 256) as u8,
-        (third % 256) as u8,
-        (fourth % 256) as u8,
-        (fifth % 256) as u8,
-        (sixth % 256) as u8,
-        (seventh % 256) as u8,
-        (eighth % 256) as u8,
-    ]
-}
-
-fn number(first: u8, second: u8, third: u8, fourth: u8) -> u32
-    ensures { result ≡ number (first ∷ second ∷ third ∷ fourth ∷ []) }
-{
-    first as u32 + 256 * (second as u32 + 256 * (third as u32 + 256 * (fourth as u32)))
+    word.to_le_bytes()
 }
 
 // The number in the four bytes from an offset on, lowest first (`u32::from_le_bytes`).
@@ -51,12 +21,7 @@ pub fn number_at(bytes: &[u8], offset: usize) -> u32
     requires { offset + 4 ≤ length bytes.now }
     ensures { result ≡ number (field offset 4 bytes.now) }
 {
-    number(
-        bytes[offset],
-        bytes[offset + 1],
-        bytes[offset + 2],
-        bytes[offset + 3],
-    )
+    u32::from_le_bytes(array_of(&bytes[offset..offset + 4]))
 }
 
 // Lays bytes over what stands at an offset (`copy_from_slice`).
@@ -64,54 +29,21 @@ pub fn put(out: &mut [u8], offset: usize, bytes: &[u8])
     requires { offset + length bytes.now ≤ length out.old }
     ensures { out.new ≡ take offset out.old ++ (bytes.now ++ drop (offset + length bytes.now) out.old) }
 {
-    for k in 0..bytes.len() {
-        out[offset + k] = bytes[k];
-    }
+    out[offset..offset + bytes.len()].copy_from_slice(bytes);
 }
 
-// Eight bytes as an array.
-pub fn array_8(bytes: &[u8]) -> [u8; 8]
-    requires { length bytes.now ≡ 8 }
+// Bytes as an array of as many: a key, data, an entry, a map.
+pub fn array_of<const N: usize>(bytes: &[u8]) -> [u8; N]
+    requires { length bytes.now ≡ N }
     ensures { result ≡ bytes.now }
 {
-    let mut out = [0u8; 8];
-    put(&mut out, 0, bytes);
-    out
-}
-
-// Sixteen bytes as an array.
-pub fn array_16(bytes: &[u8]) -> [u8; 16]
-    requires { length bytes.now ≡ 16 }
-    ensures { result ≡ bytes.now }
-{
-    let mut out = [0u8; 16];
-    put(&mut out, 0, bytes);
-    out
-}
-
-// 32 bytes as an array: an entry, a map, a header.
-pub fn array_32(bytes: &[u8]) -> [u8; 32]
-    requires { length bytes.now ≡ 32 }
-    ensures { result ≡ bytes.now }
-{
-    let mut out = [0u8; 32];
-    put(&mut out, 0, bytes);
-    out
+    bytes.try_into().unwrap()
 }
 
 // Whether two lists of bytes are the same.
+#[tactic(auto, using(crate::proofs::Laws::same_bytes_pairs))]
 pub fn same(first: &[u8], second: &[u8]) -> bool
     ensures { result ≡ same_bytes first.now second.now }
 {
-    if first.len() != second.len() {
-        return false;
-    }
-    let mut i = 0;
-    while i < first.len() {
-        if first[i] != second[i] {
-            return false;
-        }
-        i += 1;
-    }
-    true
+    first == second
 }

@@ -19,7 +19,7 @@ pub fn entry_at(image: &[u8], index: usize) -> [u8; 32]
 {
     let start = entry_address(index);
     let end = start + ENTRY_SIZE;
-    bytes::array_32(&image[start..end])
+    bytes::array_of(&image[start..end])
 }
 
 // The map's 32 bytes.
@@ -27,19 +27,12 @@ pub fn map_of(image: &[u8]) -> [u8; 32]
     requires { length image.now ≡ sector_size }
     ensures { result ≡ map_of image.now }
 {
-    bytes::array_32(&image[MAP_OFFSET..ITEMS_OFFSET])
-}
-
-// Two bytes as a number, the low one first.
-fn u16_of(low: u8, high: u8) -> usize
-    ensures { (result ≡ low + 256 * high) × (result < 2 ^ 16) }
-{
-    low as usize + 256 * high as usize
+    bytes::array_of(&image[MAP_OFFSET..ITEMS_OFFSET])
 }
 
 // The payload's size, as an item's header entry has it.
 pub fn size_of(entry: [u8; 32]) -> usize
     ensures { (result ≡ size_of entry) × (result < 2 ^ 16) }
 {
-    u16_of(entry[24], entry[25])
+    u16::from_le_bytes([entry[24], entry[25]]) as usize
 }

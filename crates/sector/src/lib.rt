@@ -49,36 +49,36 @@ pub enum PageState {
     Invalid,
 }
 
-// The two bits of an entry in the map.
+// What an entry is in the map, each with its two bits.
 #[derive(Clone, Copy, PartialEq, Eq)]
 pub enum EntryMapState {
-    Empty,
-    Written,
-    Erased,
-    Illegal,
+    Empty = 0b11,
+    Written = 0b10,
+    Erased = 0b00,
+    Illegal = 0b01,
 }
 
-// The thirteen types. Any also stands for a byte that is none of them.
+// The thirteen types, each with its byte. Any also stands for a byte that is none of them.
 #[derive(Clone, Copy, PartialEq, Eq)]
 pub enum ItemType {
-    U8,
-    I8,
-    U16,
-    I16,
-    U32,
-    I32,
-    U64,
-    I64,
-    Sized,
-    Blob,
-    BlobData,
-    BlobIndex,
-    Any,
+    U8 = 0x01,
+    I8 = 0x11,
+    U16 = 0x02,
+    I16 = 0x12,
+    U32 = 0x04,
+    I32 = 0x14,
+    U64 = 0x08,
+    I64 = 0x18,
+    Sized = 0x21,
+    Blob = 0x41,
+    BlobData = 0x42,
+    BlobIndex = 0x48,
+    Any = 0xFF,
 }
 
 // What a type byte decides: the type that it names, a primitive's width (0 for other types), and whether a
 // payload lies after the item's header.
-#[derive(Clone, Copy)]
+#[derive(Clone, Copy, PartialEq, Eq)]
 pub struct Kind {
     pub named: ItemType,
     pub width: u8,
@@ -113,7 +113,7 @@ pub enum Refusal {
 }
 
 // How many of the 126 entries are in each state.
-#[derive(Clone, Copy)]
+#[derive(Clone, Copy, PartialEq, Eq)]
 pub struct Statistics {
     pub empty: u32,
     pub written: u32,

@@ -7,39 +7,21 @@ use crate::PageState;
 pub fn is_uninitialized(state: PageState) -> bool
     ensures { result ≡ is_uninitialized state }
 {
-    match state {
-        PageState::Uninitialized => true,
-        PageState::Active => false,
-        PageState::Full => false,
-        PageState::Freeing => false,
-        PageState::Corrupt => false,
-        PageState::Invalid => false,
-    }
+    state == PageState::Uninitialized
 }
 
 pub fn is_active(state: PageState) -> bool
     ensures { result ≡ is_active state }
 {
-    match state {
-        PageState::Uninitialized => false,
-        PageState::Active => true,
-        PageState::Full => false,
-        PageState::Freeing => false,
-        PageState::Corrupt => false,
-        PageState::Invalid => false,
-    }
+    state == PageState::Active
 }
 
 // Active, Full or Freeing: such a page opens, and erase takes it.
 pub fn is_in_use(state: PageState) -> bool
     ensures { result ≡ is_in_use state }
 {
-    match state {
-        PageState::Uninitialized => false,
-        PageState::Active => true,
-        PageState::Full => true,
-        PageState::Freeing => true,
-        PageState::Corrupt => false,
-        PageState::Invalid => false,
-    }
+    matches!(
+        state,
+        PageState::Active | PageState::Full | PageState::Freeing
+    )
 }

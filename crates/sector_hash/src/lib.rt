@@ -23,7 +23,7 @@ pub fn calculate_hash(namespace: u8, key: [u8; 16], chunk: u8) -> u32
 pub fn key_of(entry: [u8; 32]) -> [u8; 16]
     ensures { result ≡ key_of entry }
 {
-    bytes::array_16(&entry[8..24])
+    bytes::array_of(&entry[8..24])
 }
 
 // The hash of the item whose header is an entry (`Item::calculate_hash`).

@@ -18,7 +18,7 @@ loop-k-preserved c =
     let at = c.loop-k in
     let bytes = c.args.bytes.now in
     let long = length_chunks 126 bytes in
-    let entry = c.array_32.ensures ∙ ap (λ (n : ℕ). take n (drop (32 * at.k) bytes)) (add_sub 32 at.k) ∙ sym (get_d_chunks 126 at.k bytes (omega arith)) in
+    let entry = c.array_of.ensures ∙ ap (λ (n : ℕ). take n (drop (32 * at.k) bytes)) (add_sub 32 at.k) ∙ sym (get_d_chunks 126 at.k bytes (omega arith)) in
     (omega arith, simp length-set at.invariant.1, made_next at.entries (chunks 126 bytes) at.k [] (omega arith) (omega (arith, long)) at.invariant.2 entry)
 
 pub returns : goal.returns

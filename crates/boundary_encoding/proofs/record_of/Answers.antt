@@ -7,7 +7,7 @@ unfolding record_of
 returns c =
     rw (
       c.state_of_byte-state.ensures,
-      c.array_32-map.ensures,
+      c.array_of-map.ensures,
       c.places_of-list.ensures,
       c.number_at.ensures,
       c.number_at-2.ensures,

@@ -25,9 +25,9 @@ returns-then-bytes-ne-MAP_SIZE c =
       buffer = refl;
     })
 
-pub array_32-requires : goal.array_32-requires
+pub array_of-requires : goal.array_of-requires
 unfolding state_given
-array_32-requires c =
+array_of-requires c =
     search rules
 
 pub get_entry_state-found-requires : goal.get_entry_state-found-requires
@@ -59,7 +59,7 @@ pub returns : goal.returns
 unfolding state_given
 returns c =
     let index = c.args.index in
-    let state = c.get_entry_state-found.ensures ∙ ap (λ (map : List ℕ). entry_state map index) c.array_32.ensures in
+    let state = c.get_entry_state-found.ensures ∙ ap (λ (map : List ℕ). entry_state map index) c.array_of.ensures in
     rw (right_size 57 _ c.if-buffer-ne-ANSWER_SIZE.false, right_size 32 _ c.if-bytes-ne-MAP_SIZE.false)
     (let both = given_of (λ (s : StateAnswer). s.answer) (λ s. bits_of s.state) (λ s. zero_item) state
     (c.give.ensures.number, rw c.bits_of.ensures at c.give.ensures.buffer) in

@@ -32,9 +32,9 @@ returns-then-entries-ne-ENTRIES_SIZE c =
       buffer = refl;
     })
 
-pub array_32-requires : goal.array_32-requires
+pub array_of-requires : goal.array_of-requires
 unfolding bound_given
-array_32-requires c =
+array_of-requires c =
     search rules
 
 pub entries_of-requires : goal.entries_of-requires
@@ -64,5 +64,5 @@ returns c =
       number = c.give.ensures.number;
       buffer = c.give.ensures.buffer
           ∙ ap (λ (value : ℕ). answer_bytes 0 value zero_item no_counts)
-          (c.hashed_item_bound-count.ensures ∙ ap₂ hash_bound c.array_32.ensures c.entries_of.ensures);
+          (c.hashed_item_bound-count.ensures ∙ ap₂ hash_bound c.array_of.ensures c.entries_of.ensures);
     })

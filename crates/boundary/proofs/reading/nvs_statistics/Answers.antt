@@ -23,9 +23,9 @@ returns-then-bytes-ne-MAP_SIZE c =
       buffer = refl;
     })
 
-pub array_32-requires : goal.array_32-requires
+pub array_of-requires : goal.array_of-requires
 unfolding statistics_given
-array_32-requires c =
+array_of-requires c =
     search rules
 
 pub get_entry_statistics-counts-requires : goal.get_entry_statistics-counts-requires
@@ -49,5 +49,5 @@ returns c =
     rw (right_size 57 _ c.if-buffer-ne-ANSWER_SIZE.false, right_size 32 _ c.if-bytes-ne-MAP_SIZE.false) (record {
       number = refl;
       buffer = c.put_answer.ensures
-          ∙ ap (answer_bytes 0 0 zero_item) (c.get_entry_statistics-counts.ensures ∙ ap statistics c.array_32.ensures);
+          ∙ ap (answer_bytes 0 0 zero_item) (c.get_entry_statistics-counts.ensures ∙ ap statistics c.array_of.ensures);
     })

@@ -26,9 +26,9 @@ returns-then-key-ne-KEY_SIZE c =
       buffer = refl;
     })
 
-pub array_16-requires : goal.array_16-requires
+pub array_of-requires : goal.array_of-requires
 unfolding hash_given
-array_16-requires c =
+array_of-requires c =
     search rules
 
 pub calculate_hash-hash-requires : goal.calculate_hash-hash-requires
@@ -56,5 +56,5 @@ unfolding hash_given
 returns c =
     let z = c.args in
     rw (right_size 57 _ c.if-buffer-ne-ANSWER_SIZE.false, right_size 16 _ c.if-key-ne-KEY_SIZE.false)
-    (let both = given_of (λ (n : ℕ). Done) (λ (n : ℕ). n) (λ (n : ℕ). zero_item) (c.calculate_hash-hash.ensures ∙ ap (λ (key : List ℕ). hash_of z.namespace key z.chunk) c.array_16.ensures) (c.give.ensures.number, c.give.ensures.buffer) in
+    (let both = given_of (λ (n : ℕ). Done) (λ (n : ℕ). n) (λ (n : ℕ). zero_item) (c.calculate_hash-hash.ensures ∙ ap (λ (key : List ℕ). hash_of z.namespace key z.chunk) c.array_of.ensures) (c.give.ensures.number, c.give.ensures.buffer) in
     record { number = both.0; buffer = both.1 })

@@ -25,9 +25,9 @@ returns-then-bytes-ne-ENTRY_SIZE c =
       buffer = refl;
     })
 
-pub array_32-requires : goal.array_32-requires
+pub array_of-requires : goal.array_of-requires
 unfolding item_crc_given
-array_32-requires c =
+array_of-requires c =
     search rules
 
 pub item_crc-crc-requires : goal.item_crc-crc-requires
@@ -54,5 +54,5 @@ pub returns : goal.returns
 unfolding item_crc_given
 returns c =
     rw (right_size 57 _ c.if-buffer-ne-ANSWER_SIZE.false, right_size 32 _ c.if-bytes-ne-ENTRY_SIZE.false)
-    (let both = given_of (λ (n : ℕ). Done) (λ (n : ℕ). n) (λ (n : ℕ). zero_item) (c.item_crc-crc.ensures ∙ ap item_crc c.array_32.ensures) (c.give.ensures.number, c.give.ensures.buffer) in
+    (let both = given_of (λ (n : ℕ). Done) (λ (n : ℕ). n) (λ (n : ℕ). zero_item) (c.item_crc-crc.ensures ∙ ap item_crc c.array_of.ensures) (c.give.ensures.number, c.give.ensures.buffer) in
     record { number = both.0; buffer = both.1 })

@@ -24,9 +24,9 @@ returns-then-key-ne-KEY_SIZE c =
       buffer = refl;
     })
 
-pub array_16-name-requires : goal.array_16-name-requires
+pub array_of-name-requires : goal.array_of-name-requires
 unfolding namespace_left
-array_16-name-requires c =
+array_of-name-requires c =
     search rules
 
 pub record_of-page-requires : goal.record_of-page-requires
@@ -60,5 +60,5 @@ returns c =
     let z = c.args in
     rw (right_size 675 _ c.if-buffer-ne-RECORD_SIZE.false, right_size 16 _ c.if-key-ne-KEY_SIZE.false)
     (let both = called_over (λ page. append_single z.image.now page (namespace_item z.key.now z.value) z.stop) (λ page. append_single_image z.image.now page (namespace_item z.key.now z.value) z.stop) z.buffer.now
-    c.record_of-page.ensures (rw c.array_16-name.ensures at c.write_namespace-outcome.ensures.answer, rw c.array_16-name.ensures at c.write_namespace-outcome.ensures.image) (c.hand_back.ensures.number, c.hand_back.ensures.buffer) in
+    c.record_of-page.ensures (rw c.array_of-name.ensures at c.write_namespace-outcome.ensures.answer, rw c.array_of-name.ensures at c.write_namespace-outcome.ensures.image) (c.hand_back.ensures.number, c.hand_back.ensures.buffer) in
     record { number = both.0; image = both.1.0; buffer = both.1.1 })

@@ -33,14 +33,14 @@ returns-then-bytes-ne-SINGLE_SIZE c =
       buffer = refl;
     })
 
-pub array_16-requires : goal.array_16-requires
+pub array_of-requires : goal.array_of-requires
 unfolding single_left
-array_16-requires c =
+array_of-requires c =
     search rules
 
-pub array_8-requires : goal.array_8-requires
+pub array_of-requires-2 : goal.array_of-requires-2
 unfolding single_left
-array_8-requires c =
+array_of-requires-2 c =
     search rules
 
 pub record_of-page-requires : goal.record_of-page-requires
@@ -75,5 +75,5 @@ returns c =
     let item = single_of z.namespace z.kind z.span z.chunk z.key.now z.bytes.now in
     rw (right_size 675 _ c.if-buffer-ne-RECORD_SIZE.false, right_size 16 _ c.if-key-ne-KEY_SIZE.false, right_size 8 _ c.if-bytes-ne-SINGLE_SIZE.false)
     (let both = called_over (λ page. append_single z.image.now page item z.stop) (λ page. append_single_image z.image.now page item z.stop) z.buffer.now
-    c.record_of-page.ensures (rw (c.array_16.ensures, c.array_8.ensures) at c.write_item-outcome.ensures.answer, rw (c.array_16.ensures, c.array_8.ensures) at c.write_item-outcome.ensures.image) (c.hand_back.ensures.number, c.hand_back.ensures.buffer) in
+    c.record_of-page.ensures (rw (c.array_of.ensures, c.array_of-2.ensures) at c.write_item-outcome.ensures.answer, rw (c.array_of.ensures, c.array_of-2.ensures) at c.write_item-outcome.ensures.image) (c.hand_back.ensures.number, c.hand_back.ensures.buffer) in
     record { number = both.0; image = both.1.0; buffer = both.1.1 })
