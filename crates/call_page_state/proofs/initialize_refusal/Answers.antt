@@ -20,14 +20,14 @@ returns-then-not-fit_to_use c =
 pub returns-then-not-is_uninitialized : goal.returns-then-not-is_uninitialized
 returns-then-not-is_uninitialized c =
     let whole : eqb (length c.args.image.now) 4096 ≡ true = eq-eqb _ _ c.if-image-ne-SECTOR_SIZE.false in
-    let fit : fit_to_use c.args.page ≡ true = sym c.fit_to_use.ensures ∙ c.if-not-fit_to_use.false in
+    let fit : fit_to_use c.args.page.now ≡ true = sym c.fit_to_use.ensures ∙ c.if-not-fit_to_use.false in
     rw (whole, fit, sym c.is_uninitialized.ensures ∙ c.if-not-is_uninitialized.true)
 
 pub returns-then-not-all_ones : goal.returns-then-not-all_ones
 returns-then-not-all_ones c =
     let whole : eqb (length c.args.image.now) 4096 ≡ true = eq-eqb _ _ c.if-image-ne-SECTOR_SIZE.false in
-    let fit : fit_to_use c.args.page ≡ true = sym c.fit_to_use.ensures ∙ c.if-not-fit_to_use.false in
-    let blank : is_uninitialized c.args.page.state ≡ true = sym c.is_uninitialized.ensures ∙ c.if-not-is_uninitialized.false in
+    let fit : fit_to_use c.args.page.now ≡ true = sym c.fit_to_use.ensures ∙ c.if-not-fit_to_use.false in
+    let blank : is_uninitialized c.args.page.now.state ≡ true = sym c.is_uninitialized.ensures ∙ c.if-not-is_uninitialized.false in
     rw (
       whole,
       fit,
@@ -38,8 +38,8 @@ returns-then-not-all_ones c =
 pub returns : goal.returns
 returns c =
     let whole : eqb (length c.args.image.now) 4096 ≡ true = eq-eqb _ _ c.if-image-ne-SECTOR_SIZE.false in
-    let fit : fit_to_use c.args.page ≡ true = sym c.fit_to_use.ensures ∙ c.if-not-fit_to_use.false in
-    let blank : is_uninitialized c.args.page.state ≡ true = sym c.is_uninitialized.ensures ∙ c.if-not-is_uninitialized.false in
+    let fit : fit_to_use c.args.page.now ≡ true = sym c.fit_to_use.ensures ∙ c.if-not-fit_to_use.false in
+    let blank : is_uninitialized c.args.page.now.state ≡ true = sym c.is_uninitialized.ensures ∙ c.if-not-is_uninitialized.false in
     rw (
       whole,
       fit,

@@ -4,5 +4,4 @@ use Rattle.call_page_state.proofs.initialized.Goals as goal
 
 pub returns : goal.returns
 unfolding initialised
-returns c =
-    cc
+returns c = cc

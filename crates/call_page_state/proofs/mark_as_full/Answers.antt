@@ -3,43 +3,42 @@ use mathlib.Core.Path.{◌≡◌, refl, ap, ◌∙◌}
 use mathlib.Core.Bool.{true, false}
 use mathlib.Core.List.{List, []}
 use native.Mathlib.Omega.{arith}
+use borrow.Author.Rules.{rules}
 use lib.Seq.{take_all}
+use Rattle.std.specs.Prelude.{is_ok}
 use Rattle.flash.specs.Flash.{Unit4, run}
-use Rattle.sector.proofs.Laws.{accepted_done}
+use Rattle.sector.proofs.Laws.{accepted_done, accepted_refused}
 use Rattle.page.proofs.Checks.{accepted_usable, call_refused, call_whole}
 use Rattle.page.specs.Writing.{not_active}
-use Rattle.sector.specs.Answers.{accepted}
+use Rattle.sector.specs.Answers.{Check}
 use Rattle.call_page_state.specs.Calls.{mark_full_checks, mark_full_plan, marked_full, mark_full, mark_full_image}
 use Rattle.call_page_state.proofs.Laws.{length-mark_full_plan}
 use Rattle.call_page_state.proofs.mark_as_full.Goals as goal
 
-pub returns-then-not-is_done : goal.returns-then-not-is_done
+pub returns-in_err-append_refusal : goal.returns-in_err-append_refusal
 unfolding mark_full mark_full_image
-returns-then-not-is_done c =
-    let tested : let z = c.args in accepted (mark_full_checks z.image.now z.page) ≡ c.is_done.result = let z = c.args in
-    accepted_done (mark_full_checks z.image.now z.page) refl c.append_refusal-refused.ensures c.is_done.ensures in
+returns-in_err-append_refusal c =
     let z = c.args in
-    let both = call_refused (mark_full_checks z.image.now z.page) z.page (marked_full z.page) z.image.now false mark_full_plan
-    c.append_refusal-refused.ensures (tested ∙ c.if-not-is_done.true) in
-    record { answer = both.0; image = both.1 }
+    let checks : List Check = mark_full_checks z.image.now z.page.now in
+    let refused : is_ok c.append_refusal.result ≡ false = search rules in
+    let same : c.from_residual.result ≡ c.append_refusal.result = search rules in
+    let all = call_refused checks z.page.now (marked_full z.page.now) z.image.now false mark_full_plan
+    (same ∙ c.append_refusal.ensures) (accepted_refused checks c.append_refusal.ensures refused) in
+    record { answer = all.0; page = all.1; image = all.2 }
 
 pub write_full-requires : goal.write_full-requires
 write_full-requires c =
-    let tested : let z = c.args in accepted (mark_full_checks z.image.now z.page) ≡ c.is_done.result = let z = c.args in
-    accepted_done (mark_full_checks z.image.now z.page) refl c.append_refusal-refused.ensures c.is_done.ensures in
-    let passed : let z = c.args in accepted (mark_full_checks z.image.now z.page) ≡ true = tested ∙ c.if-not-is_done.false in
     let z = c.args in
-    (accepted_usable z.image.now z.page (not_active z.page).0 [] passed).whole
+    let done : is_ok c.append_refusal.result ≡ true = search rules in
+    (accepted_usable z.image.now z.page.now (not_active z.page.now).0 [] (accepted_done (mark_full_checks z.image.now z.page.now) c.append_refusal.ensures done)).whole
 
 pub returns : goal.returns
-unfolding mark_full mark_full_image mark_full_plan
+unfolding mark_full mark_full_image mark_full_plan marked_full
 returns c =
-    let tested : let z = c.args in accepted (mark_full_checks z.image.now z.page) ≡ c.is_done.result = let z = c.args in
-    accepted_done (mark_full_checks z.image.now z.page) refl c.append_refusal-refused.ensures c.is_done.ensures in
-    let passed : let z = c.args in accepted (mark_full_checks z.image.now z.page) ≡ true = tested ∙ c.if-not-is_done.false in
     let z = c.args in
-    let both = call_whole (mark_full_checks z.image.now z.page) z.page (marked_full z.page) z.image.now mark_full_plan
-    passed
-    c.marked_full-new.ensures
+    let checks : List Check = mark_full_checks z.image.now z.page.now in
+    let done : is_ok c.append_refusal.result ≡ true = search rules in
+    let all = call_whole checks z.page.now (marked_full z.page.now) z.image.now mark_full_plan
+    (accepted_done checks c.append_refusal.ensures done) refl
     (c.write_full.ensures.image ∙ ap (λ (plan : List Unit4). run plan z.image.now) (take_all 1 mark_full_plan (omega (arith, length-mark_full_plan)))) in
-    record { answer = both.0; image = both.1 }
+    record { answer = all.0; page = all.1; image = all.2 }
