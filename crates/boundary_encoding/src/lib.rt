@@ -145,11 +145,10 @@ pub fn record_of(bytes: &[u8]) -> ThinPage
 
 // ---- a record's bytes
 
-fn head_bytes(page: ThinPage) -> [u8; 10]
-    ensures { result ≡ head_bytes page }
+fn head_bytes(page: &ThinPage) -> [u8; 10]
+    ensures { result ≡ head_bytes page.now }
 {
-    let state = page.state;
-    let byte = state_byte(state);
+    let byte = state_byte(page.state);
     let sequence = bytes::little_endian(page.sequence);
     let crc = bytes::little_endian(page.crc);
     [
@@ -185,18 +184,14 @@ fn put_places(out: &mut [u8], list: [Listed; 126])
 }
 
 // Lays a record out in 675 bytes.
-pub fn put_record(page: ThinPage, out: &mut [u8])
+pub fn put_record(page: &ThinPage, out: &mut [u8])
     requires { length out.old ≡ record_size }
-    ensures { out.new ≡ record_bytes page }
+    ensures { out.new ≡ record_bytes page.now }
 {
-    let head = head_bytes(page);
-    bytes::put(out, STATE_OFFSET, &head);
-    let map = page.map;
-    bytes::put(out, MAP_OFFSET, &map);
-    let counts = [page.used, page.erased, page.len];
-    bytes::put(out, USED_OFFSET, &counts);
-    let list = page.list;
-    put_places(out, list);
+    bytes::put(out, STATE_OFFSET, &head_bytes(page));
+    bytes::put(out, MAP_OFFSET, &page.map);
+    bytes::put(out, USED_OFFSET, &[page.used, page.erased, page.len]);
+    put_places(out, page.list);
 }
 
 // ---- an answer's bytes

@@ -2,78 +2,96 @@
 #![tactic(auto)]
 
 ghost use Rattle.std.specs.Prelude.{◌≡◌, length};
-ghost use Rattle.sector.specs.Answers.{number_of, carried_byte};
-ghost use Rattle.boundary_encoding.specs.Encoding.{record_size, record_bytes, answer_size, answer_bytes, no_counts};
+ghost use Rattle.sector.specs.Answers.{number_of, carried_byte, answer_in, value_in};
+ghost use Rattle.boundary_encoding.specs.Encoding.{record_size, record_bytes, answer_size, answer_bytes, zero_item, no_counts};
 ghost use Rattle.boundary_results.specs.Handing.{record_left};
+ghost use Rattle.page.specs.Record.{uninitialized};
+ghost use Rattle.page.specs.Writing.{answered};
 
-use page::Outcome;
-use sector::{Answer, Statistics, answers};
+use page::ThinPage;
+use sector::{Refusal, Statistics, answers};
 
-// The type byte that an answer carries, 0 but for ItemTypeMismatch.
-fn carried_byte(answer: Answer) -> u8
-    ensures { result ≡ carried_byte answer }
-{
-    match answer {
-        Answer::Done => 0,
-        Answer::BadImage => 0,
-        Answer::BadRecord => 0,
-        Answer::WrongState => 0,
-        Answer::BadRequest => 0,
-        Answer::ValueTooLong => 0,
-        Answer::PageFull => 0,
-        Answer::KeyNotFound => 0,
-        Answer::ItemTypeMismatch(byte) => byte,
-        Answer::CorruptedData => 0,
-        Answer::NotWritten => 0,
-        Answer::Stopped => 0,
-    }
-}
+// Of a call that has no item.
+const NO_ITEM: [u8; 32] = [0; 32];
 
-fn no_counts() -> Statistics
-    ensures { result ≡ no_counts }
-{
-    Statistics {
-        empty: 0,
-        written: 0,
-        erased: 0,
-        illegal: 0,
-    }
-}
+// Of a call that has no counts.
+const NO_COUNTS: Statistics = Statistics {
+    empty: 0,
+    written: 0,
+    erased: 0,
+    illegal: 0,
+};
 
 // Lays out an answer with a number and an item, and hands back its number in document 01.
-pub fn give(buffer: &mut [u8], answer: Answer, value: u64, item: [u8; 32]) -> u32
+fn give(buffer: &mut [u8], answer: Result<(), Refusal>, value: u64, item: [u8; 32]) -> u32
     requires { length buffer.old ≡ answer_size }
     ensures number { result ≡ number_of answer }
     ensures buffer { buffer.new ≡ answer_bytes (carried_byte answer) value item no_counts }
 {
-    boundary_encoding::put_answer(buffer, carried_byte(answer), value, item, no_counts());
+    boundary_encoding::put_answer(
+        buffer,
+        answers::carried_byte(answer),
+        value,
+        item,
+        NO_COUNTS,
+    );
     answers::number_of(answer) as u32
 }
 
-// Lays out the record that opening hands back, on a refusal and a stop too, and hands back its number in document 01.
-pub fn hand_opened(buffer: &mut [u8], outcome: Outcome) -> u32
-    requires { length buffer.old ≡ record_size }
-    ensures number { result ≡ number_of outcome.answer }
-    ensures buffer { buffer.new ≡ record_bytes outcome.page }
+// Lays out a number, 0 with a refusal, and hands back the answer's number in document 01.
+pub fn give_number(buffer: &mut [u8], found: Result<u64, Refusal>) -> u32
+    requires { length buffer.old ≡ answer_size }
+    ensures number { result ≡ number_of (answer_in found) }
+    ensures buffer { buffer.new ≡ answer_bytes (carried_byte (answer_in found)) (value_in 0 found) zero_item no_counts }
 {
-    let page = outcome.page;
-    boundary_encoding::put_record(page, buffer);
-    let answer = outcome.answer;
-    answers::number_of(answer) as u32
+    match found {
+        Ok(value) => give(buffer, Ok(()), value, NO_ITEM),
+        Err(refusal) => give(buffer, Err(refusal), 0, NO_ITEM),
+    }
+}
+
+// Lays out an entry's bytes, zeros with a refusal, and hands back the answer's number in document 01.
+pub fn give_item(buffer: &mut [u8], loaded: Result<[u8; 32], Refusal>) -> u32
+    requires { length buffer.old ≡ answer_size }
+    ensures number { result ≡ number_of (answer_in loaded) }
+    ensures buffer { buffer.new ≡ answer_bytes (carried_byte (answer_in loaded)) 0 (value_in zero_item loaded) no_counts }
+{
+    match loaded {
+        Ok(item) => give(buffer, Ok(()), 0, item),
+        Err(refusal) => give(buffer, Err(refusal), 0, NO_ITEM),
+    }
+}
+
+// Lays out the record that opening hands back, the Uninitialized one with a refusal and a stop, and hands back its number in
+// document 01.
+pub fn hand_opened(buffer: &mut [u8], opened: Result<ThinPage, Refusal>) -> u32
+    requires { length buffer.old ≡ record_size }
+    ensures number { result ≡ number_of (answer_in opened) }
+    ensures buffer { buffer.new ≡ record_bytes (value_in uninitialized opened) }
+{
+    match opened {
+        Ok(page) => {
+            boundary_encoding::put_record(&page, buffer);
+            0
+        }
+        Err(refusal) => {
+            boundary_encoding::put_record(&ThinPage::uninitialized(), buffer);
+            refusal.number() as u32
+        }
+    }
 }
 
 // Lays out the new record where the call is done, and hands back its number in document 01.
-pub fn hand_back(buffer: &mut [u8], outcome: Outcome) -> u32
+pub fn hand_back(buffer: &mut [u8], answer: Result<(), Refusal>, page: &ThinPage) -> u32
     requires { length buffer.old ≡ record_size }
-    ensures number { result ≡ number_of outcome.answer }
-    ensures buffer { buffer.new ≡ record_left buffer.old outcome }
+    ensures number { result ≡ number_of answer }
+    ensures buffer { buffer.new ≡ record_left buffer.old (answered answer page.now) }
 {
-    let answer = outcome.answer;
-    let number = answers::number_of(answer);
-    if number != 0 {
-        return number as u32;
+    match answer {
+        Ok(()) => {
+            boundary_encoding::put_record(page, buffer);
+            0
+        }
+        Err(refusal) => refusal.number() as u32,
     }
-    let page = outcome.page;
-    boundary_encoding::put_record(page, buffer);
-    0
 }

@@ -77,6 +77,16 @@ abbrev pub value_where_done : {A : Type 0} → Answer → A → Result A Refusal
 value_where_done (Ok done) value = Ok value
 value_where_done (Err refused) value = Err refused
 
+-- its answer alone
+abbrev pub answer_in : {A : Type 0} → Result A Refusal → Answer
+answer_in (Ok value) = Done
+answer_in (Err refused) = Err refused
+
+-- its value, or another where there is none
+abbrev pub value_in : {A : Type 0} → A → Result A Refusal → A
+value_in none (Ok value) = value
+value_in none (Err refused) = none
+
 -- ---- checks
 
 -- whether a check refuses, and what it then answers

@@ -3,6 +3,7 @@ use mathlib.Core.Path.{◌≡◌, refl, ap, ◌∙◌}
 use mathlib.Core.List.{List, ◌++◌, append_assoc}
 use Prim.Native.Nat.{ℕ}
 use native.Mathlib.Omega.{arith}
+use borrow.Author.Rules.{rules}
 use lib.ListN.{length}
 use Rattle.sector.proofs.Laws.{over}
 use Rattle.boundary_encoding.specs.Encoding.{head_bytes, count_bytes, places_bytes, record_bytes}
@@ -11,17 +12,17 @@ use Rattle.boundary_encoding.proofs.put_record.Goals as goal
 
 pub put-requires-2 : goal.put-requires-2
 put-requires-2 c =
-    let map_long : length c.args.page.map ≡ 32 = c.well_formed.0.1.1.1.1.1.1.0.1.0.1 in
+    let map_long : length c.args.page.now.map ≡ 32 = search rules in
     let long = map_long in
     omega (arith, long, c.put.auto.out)
 
 pub returns : goal.returns
 unfolding record_bytes
 returns c =
-    let map_long : length c.args.page.map ≡ 32 = c.well_formed.0.1.1.1.1.1.1.0.1.0.1 in
-    let page = c.args.page in
+    let map_long : length c.args.page.now.map ≡ 32 = search rules in
+    let page = c.args.page.now in
     let base = c.args.out.now in
-    let head = c.head_bytes-head.ensures in
+    let head = c.head_bytes.ensures in
     c.put_places.ensures
     ∙ ap (λ (front : List ℕ). front ++ places_bytes page.list)
     (parts_laid base (head_bytes page) page.map (count_bytes page) 10 32 3 refl map_long refl
