@@ -6,6 +6,6 @@ use Rattle.call_append.proofs.write_single.Goals as goal
 pub returns : goal.returns
 unfolding single_plan item_plan
 returns c =
-    rw (← c.requires.2, ← c.item_bytes-entry.ensures, ← c.get_next_free_entry-start.ensures)
+    rw (← c.requires.2, ← c.item_bytes-entry.ensures, ← c.get_next_free_entry.ensures)
     (let both = c.write_entries.ensures in
     record { total = both.total; image = both.image })
