@@ -4,57 +4,33 @@
 ghost use Rattle.std.specs.Prelude.{◌≡◌, ◌+◌, ◌*◌, ◌<◌, length};
 ghost use Rattle.sector.specs.Layout.{sector_size, entries_per_page, entry_at};
 ghost use Rattle.sector.specs.Item.{loads};
-ghost use Rattle.sector.specs.Answers.{refusal};
-ghost use Rattle.call_load.specs.Load.{entry_checks, raw_entry, load_item, refused_item};
+ghost use Rattle.sector.specs.Answers.{refusal, value_where_done};
+ghost use Rattle.call_load.specs.Load.{entry_checks, raw_entry, load_item};
 
-use sector::{Answer, ENTRIES_PER_PAGE, ENTRY_SIZE, ITEMS_OFFSET, SECTOR_SIZE, answers, layout};
+use sector::{ENTRIES_PER_PAGE, ENTRY_SIZE, ITEMS_OFFSET, Refusal, SECTOR_SIZE, layout};
 
-// An entry's 32 bytes, all zero where the answer is not Done.
-#[derive(Clone, Copy)]
-pub struct Loaded {
-    pub answer: Answer,
-    pub item: [u8; 32],
-}
-
-// The first of raw read's checks that refuses, or Done.
-fn entry_refusal(image: &[u8], index: usize) -> Answer
+// The first of raw read's checks that refuses.
+fn entry_refusal(image: &[u8], index: usize) -> Result<(), Refusal>
     ensures { result ≡ refusal (entry_checks image.now index) }
 {
     if image.len() != SECTOR_SIZE {
-        return Answer::BadImage;
+        return Err(Refusal::BadImage);
     }
     if index >= ENTRIES_PER_PAGE {
-        return Answer::CorruptedData;
+        return Err(Refusal::CorruptedData);
     }
-    Answer::Done
-}
-
-// No item, and why.
-fn refused(answer: Answer) -> Loaded
-    ensures { result ≡ refused_item answer }
-{
-    Loaded {
-        answer,
-        item: [0u8; 32],
-    }
+    Ok(())
 }
 
 // The 32 bytes of an entry as they lie (`ThinPage::read_raw_entry`).
 //
 // Refuses an image that is not 4,096 bytes (BadImage), then an index over 125 (CorruptedData). The Rust
 // checks neither: past the last entry it reads the next sector.
-pub fn read_raw_entry(image: &[u8], index: usize) -> Loaded
-    ensures { result ≡ raw_entry image.now index }
+pub fn read_raw_entry(image: &[u8], index: usize) -> Result<[u8; 32], Refusal>
+    ensures { result ≡ value_where_done (raw_entry image.now index).answer (raw_entry image.now index).item }
 {
-    let answer = entry_refusal(image, index);
-    if !answers::is_done(answer) {
-        return refused(answer);
-    }
-    let item = layout::entry_at(image, index);
-    Loaded {
-        answer: Answer::Done,
-        item,
-    }
+    entry_refusal(image, index)?;
+    Ok(layout::entry_at(image, index))
 }
 
 // Whether an entry loads, of which the bytes are already read.
@@ -79,19 +55,13 @@ fn loads_at(image: &[u8], index: usize, item: [u8; 32]) -> bool
 // Refuses an image that is not 4,096 bytes (BadImage), an index over 125 (CorruptedData), then an entry
 // that is all 0xFF, of an unknown type, or whose CRC is wrong (KeyNotFound). The Rust checks neither image nor
 // index, and takes an unknown type byte as 0xFF.
-pub fn load_item(image: &[u8], index: usize) -> Loaded
-    ensures { result ≡ load_item image.now index }
+pub fn load_item(image: &[u8], index: usize) -> Result<[u8; 32], Refusal>
+    ensures { result ≡ value_where_done (load_item image.now index).answer (load_item image.now index).item }
 {
-    let answer = entry_refusal(image, index);
-    if !answers::is_done(answer) {
-        return refused(answer);
-    }
+    entry_refusal(image, index)?;
     let item = layout::entry_at(image, index);
     if !loads_at(image, index, item) {
-        return refused(Answer::KeyNotFound);
+        return Err(Refusal::KeyNotFound);
     }
-    Loaded {
-        answer: Answer::Done,
-        item,
-    }
+    Ok(item)
 }
