@@ -9,12 +9,13 @@ use sector::{CRC_START, bytes};
 
 // The hash by which a page's list finds an item (`Item::calculate_hash_ref`): the low 24 bits of the CRC of
 // namespace, key and chunk.
+#[tactic(auto, unfolding(sector::specs::Item::hash_of))]
 pub fn calculate_hash(namespace: u8, key: [u8; 16], chunk: u8) -> u32
     ensures { result ≡ hash_of namespace key chunk }
 {
     let mut hashed = [0u8; 18];
     hashed[0] = namespace;
-    bytes::put(&mut hashed, 1, &key);
+    hashed[1..17].copy_from_slice(&key);
     hashed[17] = chunk;
     crc::crc32(CRC_START, &hashed) % 0x1000000
 }
