@@ -3,7 +3,7 @@ ghost use Rattle.std.specs.Prelude.{◌≡◌};
 ghost use Rattle.boundary.specs.Boundary.{width_given, load_given, raw_given, data_given, data_left, state_given, statistics_given, bound_given};
 
 use crate::{ANSWER_SIZE, BAD_CALL, ENTRIES_SIZE, MAP_SIZE, NO_ITEM};
-use sector::{Answer, bytes};
+use sector::bytes;
 
 // A primitive's width (`get_primitive_bytes_width`).
 pub fn nvs_width(byte: u8, buffer: &mut [u8]) -> u32
@@ -13,9 +13,8 @@ pub fn nvs_width(byte: u8, buffer: &mut [u8]) -> u32
     if buffer.len() != ANSWER_SIZE {
         return BAD_CALL;
     }
-    let found = sector_types::get_primitive_bytes_width(byte);
-    let answer = found.answer;
-    boundary_results::give(buffer, answer, found.width as u64, NO_ITEM)
+    let width = sector_types::get_primitive_bytes_width(byte);
+    boundary_results::give_number(buffer, width.map(|width| width as u64))
 }
 
 // An item by its index (`load_item`).
@@ -27,9 +26,7 @@ pub fn nvs_load(image: &[u8], index: u64, buffer: &mut [u8]) -> u32
         return BAD_CALL;
     }
     let loaded = call_load::load_item(image, index as usize);
-    let answer = loaded.answer;
-    let item = loaded.item;
-    boundary_results::give(buffer, answer, 0, item)
+    boundary_results::give_item(buffer, loaded)
 }
 
 // An entry's bytes as they lie (`read_raw_entry`).
@@ -41,9 +38,7 @@ pub fn nvs_raw_read(image: &[u8], index: u64, buffer: &mut [u8]) -> u32
         return BAD_CALL;
     }
     let loaded = call_load::read_raw_entry(image, index as usize);
-    let answer = loaded.answer;
-    let item = loaded.item;
-    boundary_results::give(buffer, answer, 0, item)
+    boundary_results::give_item(buffer, loaded)
 }
 
 // The data after an item's header (`load_referenced_data_into`), and its size.
@@ -55,9 +50,8 @@ pub fn nvs_load_data(image: &[u8], index: u64, output: &mut [u8], buffer: &mut [
     if buffer.len() != ANSWER_SIZE {
         return BAD_CALL;
     }
-    let loaded = call_load_data::load_referenced_data_into(image, index as usize, output);
-    let answer = loaded.answer;
-    boundary_results::give(buffer, answer, loaded.size as u64, NO_ITEM)
+    let size = call_load_data::load_referenced_data_into(image, index as usize, output);
+    boundary_results::give_number(buffer, size.map(|size| size as u64))
 }
 
 // The two bits that a map holds for an entry (`get_entry_state`).
@@ -71,10 +65,8 @@ pub fn nvs_entry_state(bytes: &[u8], index: u64, buffer: &mut [u8]) -> u32
     if bytes.len() != MAP_SIZE {
         return BAD_CALL;
     }
-    let found = sector_map::get_entry_state(bytes::array_of(bytes), index as usize);
-    let answer = found.answer;
-    let state = found.state;
-    boundary_results::give(buffer, answer, sector_map::bits_of(state) as u64, NO_ITEM)
+    let state = sector_map::get_entry_state(bytes::array_of(bytes), index as usize);
+    boundary_results::give_number(buffer, state.map(|state| sector_map::bits_of(state) as u64))
 }
 
 // How many entries are in each state (`get_entry_statistics`).
@@ -111,5 +103,5 @@ pub fn nvs_hash_bound(bytes: &[u8], entries: &[u8], buffer: &mut [u8]) -> u32
         bytes::array_of(bytes),
         boundary_encoding::entries_of(entries),
     );
-    boundary_results::give(buffer, Answer::Done, count as u64, NO_ITEM)
+    boundary_results::give_number(buffer, Ok(count as u64))
 }

@@ -4,8 +4,8 @@ ghost use Rattle.crc.specs.Crc.{crc32};
 ghost use Rattle.sector.specs.Types.{type_byte};
 ghost use Rattle.boundary.specs.Boundary.{item_crc_given, header_crc_given, hash_given};
 
-use crate::{ANSWER_SIZE, BAD_CALL, KEY_SIZE, NO_ITEM};
-use sector::{Answer, ENTRY_SIZE, bytes};
+use crate::{ANSWER_SIZE, BAD_CALL, KEY_SIZE};
+use sector::{ENTRY_SIZE, bytes};
 
 // The CRC of the data from a start value.
 pub fn nvs_crc32(start: u32, bytes: &[u8]) -> u32
@@ -26,7 +26,7 @@ pub fn nvs_item_crc(bytes: &[u8], buffer: &mut [u8]) -> u32
         return BAD_CALL;
     }
     let crc = sector_item::item_crc(bytes::array_of(bytes));
-    boundary_results::give(buffer, Answer::Done, crc as u64, NO_ITEM)
+    boundary_results::give_number(buffer, Ok(crc as u64))
 }
 
 // The CRC over bytes 4..28 of a page's header as it stands (`header_crc`).
@@ -41,7 +41,7 @@ pub fn nvs_header_crc(bytes: &[u8], buffer: &mut [u8]) -> u32
         return BAD_CALL;
     }
     let crc = sector_header::header_crc(bytes::array_of(bytes));
-    boundary_results::give(buffer, Answer::Done, crc as u64, NO_ITEM)
+    boundary_results::give_number(buffer, Ok(crc as u64))
 }
 
 // The 24-bit hash of namespace, key and chunk (`calculate_hash`).
@@ -56,7 +56,7 @@ pub fn nvs_hash(namespace: u8, key: &[u8], chunk: u8, buffer: &mut [u8]) -> u32
         return BAD_CALL;
     }
     let hash = sector_hash::calculate_hash(namespace, bytes::array_of(key), chunk);
-    boundary_results::give(buffer, Answer::Done, hash as u64, NO_ITEM)
+    boundary_results::give_number(buffer, Ok(hash as u64))
 }
 
 // The byte, or 0xFF where it is none of the thirteen types.

@@ -19,8 +19,8 @@ pub fn nvs_open(image: &mut [u8], buffer: &mut [u8]) -> u32
     if buffer.len() != RECORD_SIZE {
         return BAD_CALL;
     }
-    let outcome = opening::open_page(image);
-    boundary_results::hand_opened(buffer, outcome)
+    let opened = opening::open_page(image);
+    boundary_results::hand_opened(buffer, opened)
 }
 
 // Opens a page (`open_stopped`), stopped after `stop` units where it has more; the record is the Uninitialized one then.
@@ -32,8 +32,8 @@ pub fn nvs_open_stopped(image: &mut [u8], buffer: &mut [u8], stop: u64) -> u32
     if buffer.len() != RECORD_SIZE {
         return BAD_CALL;
     }
-    let outcome = opening::open_stopped(image, stop as usize);
-    boundary_results::hand_opened(buffer, outcome)
+    let opened = opening::open_stopped(image, stop as usize);
+    boundary_results::hand_opened(buffer, opened)
 }
 
 // Writes the header of a new page (`initialize`), stopped after `stop` units where it has more.
@@ -45,9 +45,9 @@ pub fn nvs_initialise(image: &mut [u8], buffer: &mut [u8], sequence: u32, stop: 
     if buffer.len() != RECORD_SIZE {
         return BAD_CALL;
     }
-    let page = boundary_encoding::record_of(&buffer[..]);
-    let outcome = call_page_state::initialize(image, page, sequence, stop as usize);
-    boundary_results::hand_back(buffer, outcome)
+    let mut page = boundary_encoding::record_of(buffer);
+    let answer = call_page_state::initialize(image, &mut page, sequence, stop as usize);
+    boundary_results::hand_back(buffer, answer, &page)
 }
 
 // Writes the state word Full (`mark_as_full`).
@@ -59,9 +59,9 @@ pub fn nvs_mark_full(image: &mut [u8], buffer: &mut [u8]) -> u32
     if buffer.len() != RECORD_SIZE {
         return BAD_CALL;
     }
-    let page = boundary_encoding::record_of(&buffer[..]);
-    let outcome = call_page_state::mark_as_full(image, page);
-    boundary_results::hand_back(buffer, outcome)
+    let mut page = boundary_encoding::record_of(buffer);
+    let answer = call_page_state::mark_as_full(image, &mut page);
+    boundary_results::hand_back(buffer, answer, &page)
 }
 
 // Appends a single entry (`write_item`), stopped after `stop` units where it has more.
@@ -97,9 +97,9 @@ pub fn nvs_append_single(
         key: bytes::array_of(key),
         bytes: bytes::array_of(bytes),
     };
-    let page = boundary_encoding::record_of(&buffer[..]);
-    let outcome = call_append::write_item(image, page, item, stop as usize);
-    boundary_results::hand_back(buffer, outcome)
+    let mut page = boundary_encoding::record_of(buffer);
+    let answer = call_append::write_item(image, &mut page, item, stop as usize);
+    boundary_results::hand_back(buffer, answer, &page)
 }
 
 // Appends a namespace entry (`write_namespace`), stopped after `stop` units where it has more.
@@ -121,9 +121,9 @@ pub fn nvs_append_namespace(
         return BAD_CALL;
     }
     let name = bytes::array_of(key);
-    let page = boundary_encoding::record_of(&buffer[..]);
-    let outcome = call_append::write_namespace(image, page, name, value, stop as usize);
-    boundary_results::hand_back(buffer, outcome)
+    let mut page = boundary_encoding::record_of(buffer);
+    let answer = call_append::write_namespace(image, &mut page, name, value, stop as usize);
+    boundary_results::hand_back(buffer, answer, &page)
 }
 
 // Appends data (`write_variable_sized_item`), stopped after `stop` units where it has more.
@@ -153,15 +153,15 @@ pub fn nvs_append_variable(
         chunk,
         key: bytes::array_of(key),
     };
-    let page = boundary_encoding::record_of(&buffer[..]);
-    let outcome = call_append_variable::write_variable_sized_item(
+    let mut page = boundary_encoding::record_of(buffer);
+    let answer = call_append_variable::write_variable_sized_item(
         image,
-        page,
+        &mut page,
         item,
         payload,
         stop as usize,
     );
-    boundary_results::hand_back(buffer, outcome)
+    boundary_results::hand_back(buffer, answer, &page)
 }
 
 // Copies an item from another sector (`copy_item_from`), stopped after `stop` units where it has more.
@@ -173,9 +173,9 @@ pub fn nvs_copy_in(image: &mut [u8], buffer: &mut [u8], source: &[u8], index: u6
     if buffer.len() != RECORD_SIZE {
         return BAD_CALL;
     }
-    let page = boundary_encoding::record_of(&buffer[..]);
-    let outcome = call_copy::copy_item_from(image, page, source, index as usize, stop as usize);
-    boundary_results::hand_back(buffer, outcome)
+    let mut page = boundary_encoding::record_of(buffer);
+    let answer = call_copy::copy_item_from(image, &mut page, source, index as usize, stop as usize);
+    boundary_results::hand_back(buffer, answer, &page)
 }
 
 // Marks the entries of an item Erased (`erase_item`).
@@ -187,9 +187,9 @@ pub fn nvs_erase(image: &mut [u8], buffer: &mut [u8], index: u64, span: u64) -> 
     if buffer.len() != RECORD_SIZE {
         return BAD_CALL;
     }
-    let page = boundary_encoding::record_of(&buffer[..]);
-    let outcome = call_erase::erase_item(image, page, index as usize, span as usize);
-    boundary_results::hand_back(buffer, outcome)
+    let mut page = boundary_encoding::record_of(buffer);
+    let answer = call_erase::erase_item(image, &mut page, index as usize, span as usize);
+    boundary_results::hand_back(buffer, answer, &page)
 }
 
 // Zeroes entries from an index on (`purge_entries`).
@@ -210,7 +210,7 @@ pub fn nvs_purge_namespace(image: &mut [u8], buffer: &mut [u8], namespace: u8) -
     if buffer.len() != RECORD_SIZE {
         return BAD_CALL;
     }
-    let page = boundary_encoding::record_of(&buffer[..]);
-    let outcome = call_purge_namespace::purge_erased_for_namespace(image, page, namespace);
-    boundary_results::hand_back(buffer, outcome)
+    let page = boundary_encoding::record_of(buffer);
+    let answer = call_purge_namespace::purge_erased_for_namespace(image, &page, namespace);
+    boundary_results::hand_back(buffer, answer, &page)
 }

@@ -20,7 +20,7 @@ use Rattle.sector.specs.declared.Refusal.TheVariants.{Stopped}
 use Rattle.sector.specs.declared.EntryMapState.{EntryMapState}
 use Rattle.sector.specs.declared.EntryMapState.TheVariants.{Empty, Written, Erased, Illegal}
 use Rattle.sector.specs.Layout.{sector_size, entries_per_page, entry_size, items_offset, entry_address, number, little_endian, field, same_bytes, entry_at, chunks, entries_of}
-use Rattle.sector.specs.Answers.{Answer, Done, value_where_done, answer_in, value_in, Check, refusal, accepted}
+use Rattle.sector.specs.Answers.{Answer, Done, value_where_done, answer_in, Check, refusal, accepted}
 use Rattle.sector.specs.Map.{bits_of, state_at, unpack, states_of, count_in, statistics, mark, mark_range}
 use Rattle.sector.specs.Item.{item_bytes, sized_data}
 
@@ -184,13 +184,6 @@ accepted_at ((false, answer) ∷ checks) (suc n) h = accepted_at checks n h
 pub answer_given : {A : Type 0} (answer : Answer) (value : A) → answer_in (value_where_done answer value) ≡ answer
 answer_given (Ok done) value = refl
 answer_given (Err refused) value = refl
-
--- the value of a test's two results, of which the refused one has none
-pub value_given : {A : Type 0} (none value : A) (done : Bool) (refused : Answer)
-    → value_in none (value_where_done (cond done Done refused) (cond done value none)) ≡ cond done value none
-value_given none value true refused = refl
-value_given none value false (Ok done) = refl
-value_given none value false (Err refused) = refl
 
 -- ---- states
 

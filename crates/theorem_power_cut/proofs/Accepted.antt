@@ -1,4 +1,5 @@
 -- A call that begins: no check refuses, so its units are programmed, and when it is done it hands back its new record.
+use Rattle.std.specs.Prelude.{Err}
 use mathlib.Core.Path.{◌≡◌}
 use mathlib.Core.Bool.{Bool, true, false}
 use mathlib.Core.List.{List}
@@ -18,7 +19,7 @@ use Rattle.theorem_power_cut.specs.History.{AppendOrCopy, call_of, put_request}
 use Rattle.theorem_power_cut.specs.PowerCut.{Begins}
 
 module _ (checks : List Check) (refuse : every answers_refusal checks ≡ true) (stopped : Bool) (page new : Page) where
-  pub begins_accepted : ((outcome checks stopped page new).answer ≡ Done) ⊎ ((outcome checks stopped page new).answer ≡ Stopped) → accepted checks ≡ true
+  pub begins_accepted : ((outcome checks stopped page new).answer ≡ Done) ⊎ ((outcome checks stopped page new).answer ≡ Err Stopped) → accepted checks ≡ true
   begins_accepted (inl d) = (done_only checks refuse stopped page new d).0
   begins_accepted (inr s) = (stopped_only checks refuse stopped page new s).0
 

@@ -56,7 +56,7 @@ RecordIsFit = (image : List ℕ) (page : Page) (items : List Item) → History i
 
 -- a write begins: no check refuses it
 abbrev pub Begins : AppendOrCopy → List ℕ → Page → ℕ → Type 0
-Begins write image page n = ((outcome_of (call_of write) image page n).answer ≡ Done) ⊎ ((outcome_of (call_of write) image page n).answer ≡ Stopped)
+Begins write image page n = ((outcome_of (call_of write) image page n).answer ≡ Done) ⊎ ((outcome_of (call_of write) image page n).answer ≡ Err Stopped)
 
 -- one more append or copy, cut after any n: opening is accepted; it finds the earlier items where n is at or before the last entry unit,
 -- and those and the new one, whole, from the first entry-map unit on

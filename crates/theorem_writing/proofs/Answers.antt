@@ -17,7 +17,8 @@ use Rattle.page.specs.Record.{Page, next_free, fit_to_use}
 use Rattle.page.specs.Writing.{bad_image, bad_record, not_active, over_free, outcome, image_after, stops}
 use Rattle.page.proofs.Checks.{Usable, accepted_room, accepted_usable}
 use Rattle.sector.specs.declared.Refusal.TheVariants.{BadImage, KeyNotFound, CorruptedData, ValueTooLong, Stopped}
-use Rattle.sector.specs.Answers.{Done, Check, refusal, accepted}
+use Rattle.std.specs.Prelude.{Err}
+use Rattle.sector.specs.Answers.{Answer, Done, Check, refusal, accepted}
 use Rattle.sector.specs.Header.{is_active}
 use Rattle.sector.specs.Item.{loads}
 use Rattle.sector.specs.Layout.{entry_at, span_of}
@@ -33,12 +34,12 @@ use Rattle.theorem_writing.specs.Promises.{PutRequest, single, variable, copied,
 
 -- no check answers Done or Stopped
 abbrev pub answers_refusal : Check → Bool
-answers_refusal check = is_refusal check.1
+answers_refusal check = is_refusal (Err check.1)
 
 refused : (checks : List Check) → every answers_refusal checks ≡ true → accepted checks ≡ false → is_refusal (refusal checks) ≡ true
 refused [] e f = absurd (false≢true (sym f))
-refused ((true, answer) ∷ checks) e f = ((and-eq-true_iff (is_refusal answer) (every answers_refusal checks)).0 e).0
-refused ((false, answer) ∷ checks) e f = refused checks ((and-eq-true_iff (is_refusal answer) (every answers_refusal checks)).0 e).1 f
+refused ((true, answer) ∷ checks) e f = ((and-eq-true_iff (is_refusal (Err answer)) (every answers_refusal checks)).0 e).0
+refused ((false, answer) ∷ checks) e f = refused checks ((and-eq-true_iff (is_refusal (Err answer)) (every answers_refusal checks)).0 e).1 f
 
 pub checks_refuse : (call : Call) (image : List ℕ) (page : Page) → every answers_refusal (checks_of call image page) ≡ true
 checks_refuse (initialising sequence) image page = refl
@@ -99,16 +100,16 @@ accepts (copied source i) image page h =
 
 module _ (checks : List Check) (refuse : every answers_refusal checks ≡ true) (stopped : Bool) (page new : Page) where
   -- 11 is answered where no check refuses and n is below the total
-  pub stopped_only : (outcome checks stopped page new).answer ≡ Stopped
+  pub stopped_only : (outcome checks stopped page new).answer ≡ Err Stopped
       → (accepted checks ≡ true) × (stopped ≡ true) × ((outcome checks stopped page new).page ≡ page)
   stopped_only h = by_tests (accepted checks) stopped refl refl h
     where
-      by_tests : (ok s : Bool) → accepted checks ≡ ok → stopped ≡ s → (outcome checks stopped page new).answer ≡ Stopped
+      by_tests : (ok s : Bool) → accepted checks ≡ ok → stopped ≡ s → (outcome checks stopped page new).answer ≡ Err Stopped
           → (accepted checks ≡ true) × (stopped ≡ true) × ((outcome checks stopped page new).page ≡ page)
       by_tests true true a e h = (a, e, rw (a, e))
-      by_tests true false a e h = let wrong : Done ≡ Stopped = (rw (a, e) at h) in let z : ◌≡◌ {A = ℕ} 0 1 = cc in absurd (omega arith)
+      by_tests true false a e h = let wrong : ◌≡◌ {A = Answer} Done (Err Stopped) = (rw (a, e) at h) in let z : ◌≡◌ {A = ℕ} 0 1 = cc in absurd (omega arith)
       by_tests false s a e h =
-          let wrong : refusal checks ≡ Stopped = (rw a at h) in
+          let wrong : refusal checks ≡ Err Stopped = (rw a at h) in
           absurd (false≢true (sym (ap is_refusal wrong) ∙ refused checks refuse a))
 
   -- Done is answered where no check refuses and the whole plan is done, with the new record
@@ -118,7 +119,7 @@ module _ (checks : List Check) (refuse : every answers_refusal checks ≡ true) 
     where
       by_tests : (ok s : Bool) → accepted checks ≡ ok → stopped ≡ s → (outcome checks stopped page new).answer ≡ Done
           → (accepted checks ≡ true) × (stopped ≡ false) × ((outcome checks stopped page new).page ≡ new)
-      by_tests true true a e h = let wrong : Stopped ≡ Done = (rw (a, e) at h) in let z : ◌≡◌ {A = ℕ} 0 1 = cc in absurd (omega arith)
+      by_tests true true a e h = let wrong : ◌≡◌ {A = Answer} (Err Stopped) Done = (rw (a, e) at h) in let z : ◌≡◌ {A = ℕ} 0 1 = cc in absurd (omega arith)
       by_tests true false a e h = (a, e, rw (a, e))
       by_tests false s a e h =
           let wrong : refusal checks ≡ Done = (rw a at h) in

@@ -111,7 +111,7 @@ PlainFromTotal =
 -- 11: n was below the total; it leaves the first n units programmed and hands back the incoming record
 abbrev pub StoppedLeavesFirst : Type 0
 StoppedLeavesFirst =
-    (call : Call) (image : List ℕ) (page : Page) (n : ℕ) → (outcome_of call image page n).answer ≡ Stopped
+    (call : Call) (image : List ℕ) (page : Page) (n : ℕ) → (outcome_of call image page n).answer ≡ Err Stopped
     → (n < length (plan_of call image page))
     × (image_of call image page n ≡ run (take n (plan_of call image page)) image)
     × ((outcome_of call image page n).page ≡ page)

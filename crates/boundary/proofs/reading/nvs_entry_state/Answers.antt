@@ -25,36 +25,6 @@ returns-then-bytes-ne-MAP_SIZE c =
       buffer = refl;
     })
 
-pub array_of-requires : goal.array_of-requires
-unfolding state_given
-array_of-requires c =
-    search rules
-
-pub get_entry_state-found-requires : goal.get_entry_state-found-requires
-unfolding state_given
-get_entry_state-found-requires c =
-    search rules
-
-pub bits_of-requires : goal.bits_of-requires
-unfolding state_given
-bits_of-requires c =
-    search rules
-
-pub overflow_cast-bits_of : goal.overflow_cast-bits_of
-unfolding state_given
-overflow_cast-bits_of c =
-    search rules
-
-pub give-requires : goal.give-requires
-unfolding state_given
-give-requires c =
-    search rules
-
-pub shape_of-buffer : goal.shape_of-buffer
-unfolding state_given
-shape_of-buffer c =
-    search rules
-
 pub returns : goal.returns
 unfolding state_given
 returns c =

@@ -32,37 +32,12 @@ returns-then-entries-ne-ENTRIES_SIZE c =
       buffer = refl;
     })
 
-pub array_of-requires : goal.array_of-requires
-unfolding bound_given
-array_of-requires c =
-    search rules
-
-pub entries_of-requires : goal.entries_of-requires
-unfolding bound_given
-entries_of-requires c =
-    search rules
-
-pub hashed_item_bound-count-requires : goal.hashed_item_bound-count-requires
-unfolding bound_given
-hashed_item_bound-count-requires c =
-    search rules
-
-pub give-requires : goal.give-requires
-unfolding bound_given
-give-requires c =
-    search rules
-
-pub shape_of-buffer : goal.shape_of-buffer
-unfolding bound_given
-shape_of-buffer c =
-    search rules
-
 pub returns : goal.returns
 unfolding bound_given
 returns c =
     rw (right_size 57 _ c.if-buffer-ne-ANSWER_SIZE.false, right_size 32 _ c.if-bytes-ne-MAP_SIZE.false, right_size 4032 _ c.if-entries-ne-ENTRIES_SIZE.false) (record {
-      number = c.give.ensures.number;
-      buffer = c.give.ensures.buffer
+      number = c.give_number.ensures.number;
+      buffer = c.give_number.ensures.buffer
           ∙ ap (λ (value : ℕ). answer_bytes 0 value zero_item no_counts)
           (c.hashed_item_bound-count.ensures ∙ ap₂ hash_bound c.array_of.ensures c.entries_of.ensures);
     })

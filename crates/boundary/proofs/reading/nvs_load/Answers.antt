@@ -1,8 +1,10 @@
 -- `nvs_load` meets its contract: a wrong size changes nothing, else the call's answer is laid out.
 use mathlib.Core.Path.{refl}
 use borrow.Author.Rules.{rules}
+use Rattle.sector.specs.Layout.{entry_at}
+use Rattle.call_load.specs.Load.{load_checks, load_item}
 use Rattle.boundary.specs.Boundary.{load_given}
-use Rattle.boundary.proofs.Laws.{wrong_size_lem, right_size, given_of}
+use Rattle.boundary.proofs.Laws.{wrong_size_lem, right_size, item_given, loaded_none}
 use Rattle.call_load.specs.Load.{Loaded}
 use Rattle.boundary.proofs.reading.nvs_load.Goals as goal
 
@@ -14,24 +16,10 @@ returns-then-buffer-ne-ANSWER_SIZE c =
       buffer = refl;
     })
 
-pub load_item-loaded-requires : goal.load_item-loaded-requires
-unfolding load_given
-load_item-loaded-requires c =
-    search rules
-
-pub give-requires : goal.give-requires
-unfolding load_given
-give-requires c =
-    search rules
-
-pub shape_of-buffer : goal.shape_of-buffer
-unfolding load_given
-shape_of-buffer c =
-    search rules
-
 pub returns : goal.returns
-unfolding load_given
+unfolding load_given load_item
 returns c =
+    let z = c.args in
     rw (right_size 57 _ c.if-buffer-ne-ANSWER_SIZE.false)
-    (let both = given_of (λ (l : Loaded). l.answer) (λ l. 0) (λ l. l.item) c.load_item-loaded.ensures (c.give.ensures.number, c.give.ensures.buffer) in
+    (let both = item_given c.load_item-loaded.ensures (loaded_none (load_checks z.image.now z.index) (entry_at z.image.now z.index)) (c.give_item.ensures.number, c.give_item.ensures.buffer) in
     record { number = both.0; buffer = both.1 })

@@ -16,26 +16,6 @@ returns-then-buffer-ne-ANSWER_SIZE c =
       buffer = refl;
     })
 
-pub load_referenced_data_into-loaded-requires : goal.load_referenced_data_into-loaded-requires
-unfolding data_given data_left
-load_referenced_data_into-loaded-requires c =
-    search rules
-
-pub give-requires : goal.give-requires
-unfolding data_given data_left
-give-requires c =
-    search rules
-
-pub shape_of-output : goal.shape_of-output
-unfolding data_given data_left
-shape_of-output c =
-    search rules
-
-pub shape_of-buffer : goal.shape_of-buffer
-unfolding data_given data_left
-shape_of-buffer c =
-    search rules
-
 pub returns : goal.returns
 unfolding data_given data_left
 returns c =

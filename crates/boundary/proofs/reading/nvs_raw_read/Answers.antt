@@ -1,8 +1,10 @@
 -- `nvs_raw_read` meets its contract: a wrong size changes nothing, else the call's answer is laid out.
 use mathlib.Core.Path.{refl}
 use borrow.Author.Rules.{rules}
+use Rattle.sector.specs.Layout.{entry_at}
+use Rattle.call_load.specs.Load.{entry_checks, raw_entry}
 use Rattle.boundary.specs.Boundary.{raw_given}
-use Rattle.boundary.proofs.Laws.{wrong_size_lem, right_size, given_of}
+use Rattle.boundary.proofs.Laws.{wrong_size_lem, right_size, item_given, loaded_none}
 use Rattle.call_load.specs.Load.{Loaded}
 use Rattle.boundary.proofs.reading.nvs_raw_read.Goals as goal
 
@@ -14,24 +16,10 @@ returns-then-buffer-ne-ANSWER_SIZE c =
       buffer = refl;
     })
 
-pub read_raw_entry-loaded-requires : goal.read_raw_entry-loaded-requires
-unfolding raw_given
-read_raw_entry-loaded-requires c =
-    search rules
-
-pub give-requires : goal.give-requires
-unfolding raw_given
-give-requires c =
-    search rules
-
-pub shape_of-buffer : goal.shape_of-buffer
-unfolding raw_given
-shape_of-buffer c =
-    search rules
-
 pub returns : goal.returns
-unfolding raw_given
+unfolding raw_given raw_entry
 returns c =
+    let z = c.args in
     rw (right_size 57 _ c.if-buffer-ne-ANSWER_SIZE.false)
-    (let both = given_of (λ (l : Loaded). l.answer) (λ l. 0) (λ l. l.item) c.read_raw_entry-loaded.ensures (c.give.ensures.number, c.give.ensures.buffer) in
+    (let both = item_given c.read_raw_entry-loaded.ensures (loaded_none (entry_checks z.image.now z.index) (entry_at z.image.now z.index)) (c.give_item.ensures.number, c.give_item.ensures.buffer) in
     record { number = both.0; buffer = both.1 })

@@ -23,26 +23,6 @@ returns-then-bytes-ne-MAP_SIZE c =
       buffer = refl;
     })
 
-pub array_of-requires : goal.array_of-requires
-unfolding statistics_given
-array_of-requires c =
-    search rules
-
-pub get_entry_statistics-counts-requires : goal.get_entry_statistics-counts-requires
-unfolding statistics_given
-get_entry_statistics-counts-requires c =
-    search rules
-
-pub put_answer-requires : goal.put_answer-requires
-unfolding statistics_given
-put_answer-requires c =
-    search rules
-
-pub shape_of-buffer : goal.shape_of-buffer
-unfolding statistics_given
-shape_of-buffer c =
-    search rules
-
 pub returns : goal.returns
 unfolding statistics_given
 returns c =

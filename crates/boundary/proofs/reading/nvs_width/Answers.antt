@@ -15,26 +15,6 @@ returns-then-buffer-ne-ANSWER_SIZE c =
       buffer = refl;
     })
 
-pub get_primitive_bytes_width-found-requires : goal.get_primitive_bytes_width-found-requires
-unfolding width_given
-get_primitive_bytes_width-found-requires c =
-    search rules
-
-pub overflow_cast-found : goal.overflow_cast-found
-unfolding width_given
-overflow_cast-found c =
-    search rules
-
-pub give-requires : goal.give-requires
-unfolding width_given
-give-requires c =
-    search rules
-
-pub shape_of-buffer : goal.shape_of-buffer
-unfolding width_given
-shape_of-buffer c =
-    search rules
-
 pub returns : goal.returns
 unfolding width_given
 returns c =

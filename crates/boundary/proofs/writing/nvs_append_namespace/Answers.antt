@@ -24,41 +24,11 @@ returns-then-key-ne-KEY_SIZE c =
       buffer = refl;
     })
 
-pub array_of-name-requires : goal.array_of-name-requires
-unfolding namespace_left
-array_of-name-requires c =
-    search rules
-
-pub record_of-page-requires : goal.record_of-page-requires
-unfolding namespace_left
-record_of-page-requires c =
-    search rules
-
-pub write_namespace-outcome-requires : goal.write_namespace-outcome-requires
-unfolding namespace_left
-write_namespace-outcome-requires c =
-    search rules
-
-pub hand_back-requires : goal.hand_back-requires
-unfolding namespace_left
-hand_back-requires c =
-    search rules
-
-pub shape_of-image : goal.shape_of-image
-unfolding namespace_left
-shape_of-image c =
-    search rules
-
-pub shape_of-buffer : goal.shape_of-buffer
-unfolding namespace_left
-shape_of-buffer c =
-    search rules
-
 pub returns : goal.returns
 unfolding namespace_left
 returns c =
     let z = c.args in
     rw (right_size 675 _ c.if-buffer-ne-RECORD_SIZE.false, right_size 16 _ c.if-key-ne-KEY_SIZE.false)
     (let both = called_over (λ page. append_single z.image.now page (namespace_item z.key.now z.value) z.stop) (λ page. append_single_image z.image.now page (namespace_item z.key.now z.value) z.stop) z.buffer.now
-    c.record_of-page.ensures (rw c.array_of-name.ensures at c.write_namespace-outcome.ensures.answer, rw c.array_of-name.ensures at c.write_namespace-outcome.ensures.image) (c.hand_back.ensures.number, c.hand_back.ensures.buffer) in
+    c.record_of-page.ensures (rw c.array_of-name.ensures at c.write_namespace-answer.ensures.answer) (rw c.array_of-name.ensures at c.write_namespace-answer.ensures.page) (rw c.array_of-name.ensures at c.write_namespace-answer.ensures.image) (c.hand_back.ensures.number, c.hand_back.ensures.buffer) in
     record { number = both.0; image = both.1.0; buffer = both.1.1 })

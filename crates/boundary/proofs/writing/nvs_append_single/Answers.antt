@@ -33,41 +33,6 @@ returns-then-bytes-ne-SINGLE_SIZE c =
       buffer = refl;
     })
 
-pub array_of-requires : goal.array_of-requires
-unfolding single_left
-array_of-requires c =
-    search rules
-
-pub array_of-requires-2 : goal.array_of-requires-2
-unfolding single_left
-array_of-requires-2 c =
-    search rules
-
-pub record_of-page-requires : goal.record_of-page-requires
-unfolding single_left
-record_of-page-requires c =
-    search rules
-
-pub write_item-outcome-requires : goal.write_item-outcome-requires
-unfolding single_left
-write_item-outcome-requires c =
-    search rules
-
-pub hand_back-requires : goal.hand_back-requires
-unfolding single_left
-hand_back-requires c =
-    search rules
-
-pub shape_of-image : goal.shape_of-image
-unfolding single_left
-shape_of-image c =
-    search rules
-
-pub shape_of-buffer : goal.shape_of-buffer
-unfolding single_left
-shape_of-buffer c =
-    search rules
-
 pub returns : goal.returns
 unfolding single_left
 returns c =
@@ -75,5 +40,5 @@ returns c =
     let item = single_of z.namespace z.kind z.span z.chunk z.key.now z.bytes.now in
     rw (right_size 675 _ c.if-buffer-ne-RECORD_SIZE.false, right_size 16 _ c.if-key-ne-KEY_SIZE.false, right_size 8 _ c.if-bytes-ne-SINGLE_SIZE.false)
     (let both = called_over (λ page. append_single z.image.now page item z.stop) (λ page. append_single_image z.image.now page item z.stop) z.buffer.now
-    c.record_of-page.ensures (rw (c.array_of.ensures, c.array_of-2.ensures) at c.write_item-outcome.ensures.answer, rw (c.array_of.ensures, c.array_of-2.ensures) at c.write_item-outcome.ensures.image) (c.hand_back.ensures.number, c.hand_back.ensures.buffer) in
+    c.record_of-page.ensures (rw (c.array_of.ensures, c.array_of-2.ensures) at c.write_item-answer.ensures.answer) (rw (c.array_of.ensures, c.array_of-2.ensures) at c.write_item-answer.ensures.page) (rw (c.array_of.ensures, c.array_of-2.ensures) at c.write_item-answer.ensures.image) (c.hand_back.ensures.number, c.hand_back.ensures.buffer) in
     record { number = both.0; image = both.1.0; buffer = both.1.1 })

@@ -24,36 +24,6 @@ returns-then-key-ne-KEY_SIZE c =
       buffer = refl;
     })
 
-pub array_of-requires : goal.array_of-requires
-unfolding variable_left
-array_of-requires c =
-    search rules
-
-pub record_of-page-requires : goal.record_of-page-requires
-unfolding variable_left
-record_of-page-requires c =
-    search rules
-
-pub write_variable_sized_item-outcome-requires : goal.write_variable_sized_item-outcome-requires
-unfolding variable_left
-write_variable_sized_item-outcome-requires c =
-    search rules
-
-pub hand_back-requires : goal.hand_back-requires
-unfolding variable_left
-hand_back-requires c =
-    search rules
-
-pub shape_of-image : goal.shape_of-image
-unfolding variable_left
-shape_of-image c =
-    search rules
-
-pub shape_of-buffer : goal.shape_of-buffer
-unfolding variable_left
-shape_of-buffer c =
-    search rules
-
 pub returns : goal.returns
 unfolding variable_left
 returns c =
@@ -61,5 +31,5 @@ returns c =
     let item = variable_of z.namespace z.kind z.chunk z.key.now in
     rw (right_size 675 _ c.if-buffer-ne-RECORD_SIZE.false, right_size 16 _ c.if-key-ne-KEY_SIZE.false)
     (let both = called_over (λ page. append_variable z.image.now page item z.payload.now z.stop) (λ page. append_variable_image z.image.now page item z.payload.now z.stop) z.buffer.now
-    c.record_of-page.ensures (rw c.array_of.ensures at c.write_variable_sized_item-outcome.ensures.answer, rw c.array_of.ensures at c.write_variable_sized_item-outcome.ensures.image) (c.hand_back.ensures.number, c.hand_back.ensures.buffer) in
+    c.record_of-page.ensures (rw c.array_of.ensures at c.write_variable_sized_item-answer.ensures.answer) (rw c.array_of.ensures at c.write_variable_sized_item-answer.ensures.page) (rw c.array_of.ensures at c.write_variable_sized_item-answer.ensures.image) (c.hand_back.ensures.number, c.hand_back.ensures.buffer) in
     record { number = both.0; image = both.1.0; buffer = both.1.1 })

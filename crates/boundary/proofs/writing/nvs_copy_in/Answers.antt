@@ -15,36 +15,11 @@ returns-then-buffer-ne-RECORD_SIZE c =
       buffer = refl;
     })
 
-pub record_of-page-requires : goal.record_of-page-requires
-unfolding copy_left
-record_of-page-requires c =
-    search rules
-
-pub copy_item_from-outcome-requires : goal.copy_item_from-outcome-requires
-unfolding copy_left
-copy_item_from-outcome-requires c =
-    search rules
-
-pub hand_back-requires : goal.hand_back-requires
-unfolding copy_left
-hand_back-requires c =
-    search rules
-
-pub shape_of-image : goal.shape_of-image
-unfolding copy_left
-shape_of-image c =
-    search rules
-
-pub shape_of-buffer : goal.shape_of-buffer
-unfolding copy_left
-shape_of-buffer c =
-    search rules
-
 pub returns : goal.returns
 unfolding copy_left
 returns c =
     let z = c.args in
     rw (right_size 675 _ c.if-buffer-ne-RECORD_SIZE.false)
     (let both = called_over (λ page. copy_in z.image.now page z.source.now z.index z.stop) (λ page. copy_in_image z.image.now page z.source.now z.index z.stop) z.buffer.now
-    c.record_of-page.ensures (c.copy_item_from-outcome.ensures.answer, c.copy_item_from-outcome.ensures.image) (c.hand_back.ensures.number, c.hand_back.ensures.buffer) in
+    c.record_of-page.ensures c.copy_item_from-answer.ensures.answer c.copy_item_from-answer.ensures.page c.copy_item_from-answer.ensures.image (c.hand_back.ensures.number, c.hand_back.ensures.buffer) in
     record { number = both.0; image = both.1.0; buffer = both.1.1 })

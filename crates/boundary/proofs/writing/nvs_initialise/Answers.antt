@@ -15,36 +15,11 @@ returns-then-buffer-ne-RECORD_SIZE c =
       buffer = refl;
     })
 
-pub record_of-page-requires : goal.record_of-page-requires
-unfolding initialise_left
-record_of-page-requires c =
-    search rules
-
-pub initialize-outcome-requires : goal.initialize-outcome-requires
-unfolding initialise_left
-initialize-outcome-requires c =
-    search rules
-
-pub hand_back-requires : goal.hand_back-requires
-unfolding initialise_left
-hand_back-requires c =
-    search rules
-
-pub shape_of-image : goal.shape_of-image
-unfolding initialise_left
-shape_of-image c =
-    search rules
-
-pub shape_of-buffer : goal.shape_of-buffer
-unfolding initialise_left
-shape_of-buffer c =
-    search rules
-
 pub returns : goal.returns
 unfolding initialise_left
 returns c =
     let z = c.args in
     rw (right_size 675 _ c.if-buffer-ne-RECORD_SIZE.false)
     (let both = called_over (λ page. initialise z.image.now page z.sequence z.stop) (λ page. initialise_image z.image.now page z.sequence z.stop) z.buffer.now
-    c.record_of-page.ensures (c.initialize-outcome.ensures.answer, c.initialize-outcome.ensures.image) (c.hand_back.ensures.number, c.hand_back.ensures.buffer) in
+    c.record_of-page.ensures c.initialize-answer.ensures.answer c.initialize-answer.ensures.page c.initialize-answer.ensures.image (c.hand_back.ensures.number, c.hand_back.ensures.buffer) in
     record { number = both.0; image = both.1.0; buffer = both.1.1 })

@@ -15,36 +15,11 @@ returns-then-buffer-ne-RECORD_SIZE c =
       buffer = refl;
     })
 
-pub record_of-page-requires : goal.record_of-page-requires
-unfolding mark_full_left
-record_of-page-requires c =
-    search rules
-
-pub mark_as_full-outcome-requires : goal.mark_as_full-outcome-requires
-unfolding mark_full_left
-mark_as_full-outcome-requires c =
-    search rules
-
-pub hand_back-requires : goal.hand_back-requires
-unfolding mark_full_left
-hand_back-requires c =
-    search rules
-
-pub shape_of-image : goal.shape_of-image
-unfolding mark_full_left
-shape_of-image c =
-    search rules
-
-pub shape_of-buffer : goal.shape_of-buffer
-unfolding mark_full_left
-shape_of-buffer c =
-    search rules
-
 pub returns : goal.returns
 unfolding mark_full_left
 returns c =
     let z = c.args in
     rw (right_size 675 _ c.if-buffer-ne-RECORD_SIZE.false)
     (let both = called_over (λ page. mark_full z.image.now page) (λ page. mark_full_image z.image.now page) z.buffer.now
-    c.record_of-page.ensures (c.mark_as_full-outcome.ensures.answer, c.mark_as_full-outcome.ensures.image) (c.hand_back.ensures.number, c.hand_back.ensures.buffer) in
+    c.record_of-page.ensures c.mark_as_full-answer.ensures.answer c.mark_as_full-answer.ensures.page c.mark_as_full-answer.ensures.image (c.hand_back.ensures.number, c.hand_back.ensures.buffer) in
     record { number = both.0; image = both.1.0; buffer = both.1.1 })

@@ -3,6 +3,7 @@ use mathlib.Core.Path.{refl}
 use borrow.Author.Rules.{rules}
 use Rattle.boundary.specs.Boundary.{open_left}
 use Rattle.boundary.proofs.Laws.{wrong_size_lem, right_size, opened_as}
+use Rattle.opening.proofs.Laws.{opening_none}
 use Rattle.boundary.proofs.writing.nvs_open.Goals as goal
 
 pub returns-then-buffer-ne-RECORD_SIZE : goal.returns-then-buffer-ne-RECORD_SIZE
@@ -14,29 +15,9 @@ returns-then-buffer-ne-RECORD_SIZE c =
       buffer = refl;
     })
 
-pub open_page-outcome-requires : goal.open_page-outcome-requires
-unfolding open_left
-open_page-outcome-requires c =
-    search rules
-
-pub hand_opened-requires : goal.hand_opened-requires
-unfolding open_left
-hand_opened-requires c =
-    search rules
-
-pub shape_of-image : goal.shape_of-image
-unfolding open_left
-shape_of-image c =
-    search rules
-
-pub shape_of-buffer : goal.shape_of-buffer
-unfolding open_left
-shape_of-buffer c =
-    search rules
-
 pub returns : goal.returns
 unfolding open_left
 returns c =
     rw (right_size 675 _ c.if-buffer-ne-RECORD_SIZE.false)
-    (let both = opened_as _ (c.open_page-outcome.ensures.answer, c.open_page-outcome.ensures.image) (c.hand_opened.ensures.number, c.hand_opened.ensures.buffer) in
+    (let both = opened_as _ c.open_page-opened.ensures.opened (opening_none c.args.image.now) c.open_page-opened.ensures.image (c.hand_opened.ensures.number, c.hand_opened.ensures.buffer) in
     record { number = both.0; image = both.1.0; buffer = both.1.1 })

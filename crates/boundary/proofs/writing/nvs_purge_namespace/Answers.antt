@@ -15,36 +15,11 @@ returns-then-buffer-ne-RECORD_SIZE c =
       buffer = refl;
     })
 
-pub record_of-page-requires : goal.record_of-page-requires
-unfolding purge_namespace_left
-record_of-page-requires c =
-    search rules
-
-pub purge_erased_for_namespace-outcome-requires : goal.purge_erased_for_namespace-outcome-requires
-unfolding purge_namespace_left
-purge_erased_for_namespace-outcome-requires c =
-    search rules
-
-pub hand_back-requires : goal.hand_back-requires
-unfolding purge_namespace_left
-hand_back-requires c =
-    search rules
-
-pub shape_of-image : goal.shape_of-image
-unfolding purge_namespace_left
-shape_of-image c =
-    search rules
-
-pub shape_of-buffer : goal.shape_of-buffer
-unfolding purge_namespace_left
-shape_of-buffer c =
-    search rules
-
 pub returns : goal.returns
 unfolding purge_namespace_left
 returns c =
     let z = c.args in
     rw (right_size 675 _ c.if-buffer-ne-RECORD_SIZE.false)
     (let both = called_over (λ page. purge_namespace z.image.now page z.namespace) (λ page. purge_namespace_image z.image.now page z.namespace) z.buffer.now
-    c.record_of-page.ensures (c.purge_erased_for_namespace-outcome.ensures.answer, c.purge_erased_for_namespace-outcome.ensures.image) (c.hand_back.ensures.number, c.hand_back.ensures.buffer) in
+    c.record_of-page.ensures c.purge_erased_for_namespace-answer.ensures.answer (same_record (purge_namespace_checks z.image.now c.record_of-page.result) false c.record_of-page.result) c.purge_erased_for_namespace-answer.ensures.image (c.hand_back.ensures.number, c.hand_back.ensures.buffer) in
     record { number = both.0; image = both.1.0; buffer = both.1.1 })
