@@ -1,7 +1,10 @@
--- Any two results that a public call's contract allows are equal, and so are the images that they leave (01, 'What the contracts have to say').
-use Rattle.sector.proofs.Unique.{OneOutcome, unique}
+-- Any two results that a public call's contract allows are equal, and so are the records and the images that they leave (01, 'What the contracts have to say').
+use Rattle.sector.proofs.Unique.{OneOutcome, unique, both_unique}
+use mathlib.Core.List.{List}
+use Prim.Native.Nat.{ℕ}
+use Rattle.page.specs.Record.{Page}
 use Rattle.call_append_variable.proofs.write_variable_sized_item.Kinds as write_variable_sized_item_kinds
 use Rattle.call_append_variable.proofs.write_variable_sized_item.Reads as write_variable_sized_item
 
-pub write_variable_sized_item_unique : OneOutcome 2 write_variable_sized_item_kinds.ps write_variable_sized_item_kinds.r (λ κs ex. ex.0.now) write_variable_sized_item.Learnt
-write_variable_sized_item_unique κs args x y ex ey p q = (unique p.0 q.0, unique p.1 q.1)
+pub write_variable_sized_item_unique : OneOutcome {B = List ℕ × Page} 3 write_variable_sized_item_kinds.ps write_variable_sized_item_kinds.r (λ κs ex. (ex.0.now, ex.1.0.now)) write_variable_sized_item.Learnt
+write_variable_sized_item_unique κs args x y ex ey p q = (unique p.0 q.0, both_unique (unique p.1.1 q.1.1) (unique p.1.0 q.1.0))

@@ -1,18 +1,18 @@
 // Appending data of any length (page.rs): its header entry, and the data after it.
 #![tactic(auto)]
 
-ghost use Rattle.std.specs.Prelude.{◌≡◌, true, ◌++◌, ◌+◌, ◌≤◌, length, take};
+ghost use Rattle.std.specs.Prelude.{◌≡◌, ◌++◌, ◌+◌, ◌≤◌, length, take};
 ghost use Rattle.flash.specs.Flash.{units, run};
-ghost use Rattle.page.specs.Record.{next_free, fit_to_use};
+ghost use Rattle.page.specs.Record.{next_free};
 ghost use Rattle.sector.specs.Answers.{refusal};
 ghost use Rattle.sector.specs.Layout.{entry_address};
 ghost use Rattle.sector.specs.Map.{mark_range};
 ghost use Rattle.sector.specs.declared.EntryMapState.TheVariants.{Written};
-ghost use Rattle.call_append.specs.Append.{span_for, variable_request, variable_checks, variable_header, variable_plan, with_variable, append_variable, append_variable_image};
+ghost use Rattle.call_append.specs.Append.{span_for, variable_request, variable_checks, variable_header, variable_plan, append_variable, append_variable_image};
 
 use call_append::Variable;
-use page::{Outcome, ThinPage};
-use sector::{Answer, ENTRIES_PER_PAGE, ENTRY_SIZE, answers, layout};
+use page::ThinPage;
+use sector::{ENTRIES_PER_PAGE, ENTRY_SIZE, Refusal, layout};
 use sector_hash::calculate_hash;
 use sector_item::{item_bytes, sized_data};
 use sector_types::kind_of;
@@ -21,43 +21,38 @@ use sector_types::kind_of;
 fn span_for(size: usize) -> usize
     ensures { result ≡ span_for size }
 {
-    let whole = size / ENTRY_SIZE;
-    if size % ENTRY_SIZE == 0 {
-        return whole + 1;
-    }
-    whole + 2
+    1 + size.div_ceil(ENTRY_SIZE)
 }
 
 // Whether append variable must refuse this request: its type has no payload, or it is in namespace 0.
+#[tactic(auto, unfolding(sector::specs::Types::kind_of))]
 fn is_bad_variable(item: Variable) -> bool
     ensures { result ≡ (variable_request item).0 }
 {
-    let kind = kind_of(item.kind);
-    if !kind.payload {
-        return true;
-    }
-    item.namespace == 0
+    !kind_of(item.kind).payload || item.namespace == 0
 }
 
 // Whether the page takes this data, in document 01's order.
-fn variable_refusal(image: &[u8], page: ThinPage, item: Variable, payload: &[u8]) -> Answer
-    ensures { result ≡ refusal (variable_checks image.now page item payload.now) }
+fn variable_refusal(
+    image: &[u8],
+    page: &ThinPage,
+    item: Variable,
+    payload: &[u8],
+) -> Result<(), Refusal>
+    ensures { result ≡ refusal (variable_checks image.now page.now item payload.now) }
 {
-    let refused = page_write::append_refusal(image, page);
-    if !answers::is_done(refused) {
-        return refused;
-    }
+    page_write::append_refusal(image, page)?;
     if is_bad_variable(item) {
-        return Answer::BadRequest;
+        return Err(Refusal::BadRequest);
     }
     let span = span_for(payload.len());
     if span > ENTRIES_PER_PAGE {
-        return Answer::ValueTooLong;
+        return Err(Refusal::ValueTooLong);
     }
-    if span > page_write::get_free_entry_count(page) {
-        return Answer::PageFull;
+    if span > page.get_free_entry_count() {
+        return Err(Refusal::PageFull);
     }
-    Answer::Done
+    Ok(())
 }
 
 // The 32 bytes of the header entry.
@@ -65,20 +60,14 @@ fn header_of(item: Variable, payload: &[u8]) -> [u8; 32]
     requires { span_for (length payload.now) ≤ 126 }
     ensures { result ≡ variable_header item payload.now }
 {
-    let span = span_for(payload.len());
-    let key = item.key;
-    let data = sized_data(payload);
-    item_bytes(item.namespace, item.kind, span as u8, item.chunk, key, data)
-}
-
-// The record with the data's entries.
-fn with_variable(page: ThinPage, item: Variable, payload: &[u8]) -> ThinPage
-    requires { (fit_to_use page ≡ true) × (next_free page + span_for (length payload.now) ≤ 126) }
-    ensures { result ≡ with_variable page item payload.now }
-{
-    let key = item.key;
-    let hash = calculate_hash(item.namespace, key, item.chunk);
-    page_write::with_item(page, span_for(payload.len()), item.namespace, hash)
+    item_bytes(
+        item.namespace,
+        item.kind,
+        span_for(payload.len()) as u8,
+        item.chunk,
+        item.key,
+        sized_data(payload),
+    )
 }
 
 // Programs the header entry, then the data after it, and returns the units of both.
@@ -94,7 +83,7 @@ fn write_header_and_data(
     ensures image { image.new ≡ run (take budget (units (entry_address start) header.now ++ units (entry_address (start + 1)) payload.now)) image.old }
 {
     let entry = flash::write_aligned(image, layout::entry_address(start), header, budget);
-    let left = flash::remaining(budget, entry);
+    let left = budget.saturating_sub(entry);
     let data = flash::write_aligned(image, layout::entry_address(start + 1), payload, left);
     entry + data
 }
@@ -103,21 +92,21 @@ fn write_header_and_data(
 // of all.
 fn write_variable(
     image: &mut [u8],
-    page: ThinPage,
+    page: &ThinPage,
     item: Variable,
     payload: &[u8],
     map: [u8; 32],
     budget: usize,
 ) -> usize
-    requires { (length image.old ≡ 4096) × (next_free page + span_for (length payload.now) ≤ 126) × (map ≡ mark_range Written (next_free page) (span_for (length payload.now)) page.map) }
-    ensures total { result ≡ length (variable_plan page item payload.now) }
-    ensures image { image.new ≡ run (take budget (variable_plan page item payload.now)) image.old }
+    requires { (length image.old ≡ 4096) × (next_free page.now + span_for (length payload.now) ≤ 126) × (map ≡ mark_range Written (next_free page.now) (span_for (length payload.now)) page.now.map) }
+    ensures total { result ≡ length (variable_plan page.now item payload.now) }
+    ensures image { image.new ≡ run (take budget (variable_plan page.now item payload.now)) image.old }
 {
-    let start = page_write::get_next_free_entry(page);
+    let start = page.get_next_free_entry();
     let header = header_of(item, payload);
     let bytes = write_header_and_data(image, &header, payload, start, budget);
     let span = span_for(payload.len());
-    let sealed = page_write::seal(image, map, start, span, flash::remaining(budget, bytes));
+    let sealed = page_write::seal(image, map, start, span, budget.saturating_sub(bytes));
     bytes + sealed
 }
 
@@ -129,23 +118,18 @@ fn write_variable(
 // lists data of namespace 0.
 pub fn write_variable_sized_item(
     image: &mut [u8],
-    page: ThinPage,
+    page: &mut ThinPage,
     item: Variable,
     payload: &[u8],
     stop: usize,
-) -> Outcome
-    ensures answer { result ≡ append_variable image.old page item payload.now stop }
-    ensures image { image.new ≡ append_variable_image image.old page item payload.now stop }
+) -> Result<(), Refusal>
+    ensures answer { result ≡ (append_variable image.old page.old item payload.now stop).answer }
+    ensures page { page.new ≡ (append_variable image.old page.old item payload.now stop).page }
+    ensures image { image.new ≡ append_variable_image image.old page.old item payload.now stop }
 {
-    let refused = variable_refusal(image, page, item, payload);
-    if !answers::is_done(refused) {
-        return Outcome {
-            answer: refused,
-            page,
-        };
-    }
-    let new = with_variable(page, item, payload);
-    let map = new.map;
-    let total = write_variable(image, page, item, payload, map, stop);
+    variable_refusal(image, page, item, payload)?;
+    let hash = calculate_hash(item.namespace, item.key, item.chunk);
+    let new = page_write::with_item(page, span_for(payload.len()), item.namespace, hash);
+    let total = write_variable(image, page, item, payload, new.map, stop);
     page_write::ended(page, new, stop, total)
 }

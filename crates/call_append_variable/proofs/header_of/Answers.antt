@@ -9,4 +9,4 @@ pub returns : goal.returns
 returns c =
     let given = c.args.item in
     c.item_bytes.ensures
-    ∙ ap₂ (λ (span : ℕ) (bytes : List ℕ). item_bytes given.namespace given.kind span given.chunk given.key bytes) c.span_for-span.ensures c.sized_data-data.ensures
+    ∙ ap₂ (λ (span : ℕ) (bytes : List ℕ). item_bytes given.namespace given.kind span given.chunk given.key bytes) c.span_for.ensures c.sized_data.ensures

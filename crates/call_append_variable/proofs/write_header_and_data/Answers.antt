@@ -25,7 +25,7 @@ returns c =
     z.image.now
     c.write_aligned-entry.ensures.total
     c.write_aligned-data.ensures.total
-    c.remaining-left.ensures
+    c.saturating_sub-left.ensures
     c.write_aligned-entry.ensures.image
     c.write_aligned-data.ensures.image in
     record { total = both.0; image = both.1 })

@@ -39,7 +39,7 @@ returns c =
     z.image.now
     c.write_header_and_data-bytes.ensures.total
     c.seal-sealed.ensures.total
-    c.remaining.ensures
+    c.saturating_sub.ensures
     c.write_header_and_data-bytes.ensures.image
     c.seal-sealed.ensures.image in
     record { total = both.0; image = both.1 })
