@@ -1,6 +1,7 @@
 -- Going on from one kept item to the next: what the items from an entry on are by the verdict there, and what the answers are good for.
 use mathlib.Core.Path.{◌≡◌, refl, sym, ap, ap₂, subst, ◌∙◌}
 use mathlib.Core.List.{List, [], ◌∷◌}
+use Rattle.std.specs.Prelude.{Some, None}
 use Prim.Native.Nat.{ℕ, zero, suc, ◌+◌, ◌<◌, ◌≤◌}
 use native.Mathlib.Decide.{dec_le}
 use native.Mathlib.Numerals.{add-one}
@@ -12,10 +13,12 @@ use Rattle.sector.proofs.Laws.{length-entries_of}
 use Rattle.opening_reading.specs.declared.Reason.{Reason}
 use Rattle.opening_reading.specs.declared.Verdict.{Verdict}
 use Rattle.opening_reading.specs.declared.Verdict.TheVariants.{NotAnItem, RefusedEntry, RefusedItem, Kept}
+use Rattle.opening_reading.specs.declared.Walk.{Walk}
 use Rattle.opening_reading.specs.Reading.{Item, item, steps_over}
+use Rattle.opening_reading.specs.Walk.{verdict_of, Tells}
 use Rattle.opening_reading.proofs.Entries.{entries_from, states_past}
-use Rattle.opening_reading.proofs.Steps.{verdict_of, steps_inside, kept_from_lem}
-use Rattle.opening_found.specs.Found.{At, End, items_from, next_of, next_kept, found_from, MeetsEveryItem, GoesOn}
+use Rattle.opening_reading.proofs.Steps.{steps_inside, kept_from_lem}
+use Rattle.opening_found.specs.Found.{KeptItem, items_from, next_of, next_kept, found_from, MeetsEveryItem, GoesOn}
 
 -- ---- the items from an entry on
 
@@ -47,21 +50,41 @@ module _ (image map : List ℕ) (from : ℕ) (long : length map ≡ 32) (inside 
 
 -- ---- the answer at an entry
 
-pub next_past : (image map : List ℕ) (from : ℕ) → length map ≡ 32 → 126 ≤ from → next_kept image map from ≡ End
+abbrev pub kept_item : ℕ → ℕ → KeptItem
+kept_item index span = record { index = index; span = span }
+
+pub next_past : (image map : List ℕ) (from : ℕ) → length map ≡ 32 → 126 ≤ from → next_kept image map from ≡ None
 unfolding next_kept
 next_past image map from long past = ap next_of (items_past image map from long past)
 
 module _ (image map : List ℕ) (from : ℕ) (long : length map ≡ 32) (inside : from < 126) where
-  pub next_here : (k : ℕ) → verdict_of image map from ≡ Kept k → next_kept image map from ≡ At from (k + 1)
+  pub next_here : (k : ℕ) → verdict_of image map from ≡ Kept k → next_kept image map from ≡ Some (record { index = from; span = k + 1 })
   unfolding next_kept
   next_here k e =
       let fits : from + k < 126 = rw e at (steps_inside image map from long inside) in
       ap next_of (items_here image map from long inside k e)
-      ∙ ap (λ (span : ℕ). At from span) (length_span image from (suc k) (omega arith) ∙ sym (add-one k))
+      ∙ ap (λ (span : ℕ). Some (kept_item from span)) (length_span image from (suc k) (omega arith) ∙ sym (add-one k))
 
   pub next_further : {v : Verdict} → Passed v → verdict_of image map from ≡ v → next_kept image map from ≡ next_kept image map (from + 1 + steps_over v)
   unfolding next_kept
   next_further passed e = ap next_of (items_further image map from long inside passed e)
+
+-- ---- the answer where a walk is
+
+-- what a walk over this page told, and where it is then
+module _ {image map : List ℕ} {walk rest : Walk} {index : ℕ} {verdict : Verdict} (long : length map ≡ 32)
+    (of_image : walk.image.now ≡ image) (of_map : walk.map ≡ map) (told : Tells walk (index, verdict) rest) where
+  its_verdict : verdict_of image map walk.index ≡ verdict
+  its_verdict = rw (← of_image, ← of_map) (sym told.verdict)
+
+  pub tells_kept : (k : ℕ) → verdict ≡ Kept k → (index + k < 126) × (next_kept image map walk.index ≡ Some (kept_item index (k + 1)))
+  tells_kept k e =
+      let kept = its_verdict ∙ e in
+      let fits : walk.index + k < 126 = rw kept at (steps_inside image map walk.index long told.inside) in
+      rw told.index (fits, next_here image map walk.index long told.inside k kept)
+
+  pub tells_passed : Passed verdict → next_kept image map walk.index ≡ next_kept image map rest.index
+  tells_passed passed = rw told.next (next_further image map walk.index long told.inside passed its_verdict)
 
 -- ---- going on
 
@@ -112,14 +135,15 @@ pub meets_every_item : MeetsEveryItem
 unfolding next_kept
 meets_every_item image map from long = met (going image map from long)
 
-on_page : {image map : List ℕ} {from : ℕ} {items : List Item} (index span : ℕ) → Going image map from items → next_of items ≡ At index span
-    → (from ≤ index) × (0 < span) × (index + span ≤ 126)
-on_page index span ends e = let z : ◌≡◌ {A = ℕ} 0 1 = cc in absurd (omega arith)
-on_page {image} index span (finds found k after fits) e =
-    let there : found ≡ index = cc in
-    let long : suc k ≡ span = sym (length_span image found (suc k) fits) ∙ cc in
+on_page : {image map : List ℕ} {from : ℕ} {items : List Item} (kept : KeptItem) → Going image map from items → next_of items ≡ Some kept
+    → (from ≤ kept.index) × (0 < kept.span) × (kept.index + kept.span ≤ 126)
+on_page kept ends e = let z : ◌≡◌ {A = ℕ} 0 1 = cc in absurd (omega arith)
+on_page {image} kept (finds found k after fits) e =
+    let same : kept_item found (length (take (suc k) (drop found (entries_of image)))) ≡ kept = cc in
+    let there : found ≡ kept.index = ap (λ (one : KeptItem). one.index) same in
+    let long : suc k ≡ kept.span = sym (length_span image found (suc k) fits) ∙ ap (λ (one : KeptItem). one.span) same in
     (omega arith, omega arith, omega arith)
 
 pub goes_on : GoesOn
 unfolding next_kept
-goes_on image map from index span long e = on_page index span (going image map from long) e
+goes_on image map from kept long e = on_page kept (going image map from long) e

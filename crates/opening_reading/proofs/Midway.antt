@@ -6,7 +6,7 @@
 use mathlib.Core.Path.{◌≡◌, refl, sym, ap, ◌∙◌}
 use mathlib.Core.Bool.{true, false, ◌&&◌}
 use mathlib.Core.List.{List, [], ◌∷◌}
-use mathlib.Core.Option.{some}
+use Rattle.std.specs.Prelude.{Some}
 use Prim.Native.Nat.{ℕ, zero, suc}
 use native.Mathlib.Nat.{suc_inj}
 use lib.ListN.{length, take}
@@ -62,11 +62,11 @@ pub data Midway : ℕ → ℕ → EntryMapState → States → States → Entrie
       → Gone s → Gone t → Midway zero zero Erased mid old bytes entries
       → Midway zero zero Erased (s ∷ mid) (t ∷ old) (other ∷ bytes) (entry ∷ entries)
   refuses_entry : {reason : Reason} {mid old : States} {bytes entries : Entries} (entry : List ℕ)
-      → length bytes ≡ length entries → header_refusal entry (length entries) ≡ some reason
+      → length bytes ≡ length entries → header_refusal entry (length entries) ≡ Some reason
       → Midway zero zero Erased mid old bytes entries
       → Midway zero zero Erased (Written ∷ mid) (Written ∷ old) (entry ∷ bytes) (entry ∷ entries)
   erased_entry : {reason : Reason} {mid old : States} {bytes entries : Entries} (entry : List ℕ)
-      → header_refusal entry (length entries) ≡ some reason → Midway zero zero Erased mid old bytes entries
+      → header_refusal entry (length entries) ≡ Some reason → Midway zero zero Erased mid old bytes entries
       → Midway zero zero Erased (Erased ∷ mid) (Written ∷ old) (entry ∷ bytes) (entry ∷ entries)
   refuses_item : {other reason : Reason} {k : ℕ} {mid old : States} {bytes entries : Entries} (entry : List ℕ)
       → Spoiled other entry k mid bytes → Spoiled reason entry k old entries → Midway k k Erased mid old bytes entries

@@ -5,7 +5,7 @@
 use mathlib.Core.Path.{◌≡◌, refl, sym, ap, ap₂, ◌∙◌}
 use mathlib.Core.Bool.{Bool, true, false}
 use mathlib.Core.List.{List, [], ◌∷◌, ◌++◌}
-use mathlib.Core.Option.{Option, none, some}
+use Rattle.std.specs.Prelude.{Option, Some, None}
 use Prim.Native.Nat.{ℕ, zero, suc, ◌+◌, ◌-◌, ◌<◌, ◌≤◌, zero-le}
 use native.Mathlib.Nat.{le_of_suc-le-suc, not-suc-le-zero, add-zero, add-suc, suc-add}
 use native.Mathlib.Numerals.{add-one}
@@ -17,7 +17,8 @@ use Rattle.sector.specs.declared.EntryMapState.TheVariants.{Empty, Written, Eras
 use Rattle.sector.specs.Layout.{entry_at, entries_of}
 use Rattle.sector.specs.Map.{state_at, states_of}
 use Rattle.sector.proofs.Laws.{length-states_of}
-use Rattle.opening_reading.specs.Reading.{Reason, Verdict, Kept, covered, header_refusal, payload_refusal, usable, item_verdict, header_verdict, verdict_at, steps_over, mark_of, mark_behind, walk, with_kept, kept_from}
+use Rattle.opening_reading.specs.Reading.{Reason, Kept, covered, header_refusal, payload_refusal, usable, item_verdict, header_verdict, verdict_at, steps_over, mark_of, mark_behind, walk, with_kept, kept_from}
+pub use Rattle.opening_reading.specs.Walk.{verdict_of}
 use Rattle.opening_reading.proofs.Entries.{states_from, entries_from, entries_left}
 use Rattle.opening_reading.proofs.Midway.{walk_zero}
 use Rattle.opening_reading.proofs.Verdicts.{header_fits}
@@ -41,9 +42,9 @@ kept_skip (suc k) i (s ∷ states) (entry ∷ entries) h g =
 -- ---- what a verdict says of the states and entries that it was made of
 
 steps_over_item : (refusal : Option Reason) (all_usable : Bool) (k : ℕ) → steps_over (item_verdict refusal all_usable k) ≡ k
-steps_over_item (some reason) all_usable k = refl
-steps_over_item none true k = refl
-steps_over_item none false k = refl
+steps_over_item (Some reason) all_usable k = refl
+steps_over_item None true k = refl
+steps_over_item None false k = refl
 
 -- the walk steps over entries of the page
 pub steps_over_le : (s : EntryMapState) (entry : List ℕ) (states : List EntryMapState) (entries : List (List ℕ))
@@ -53,8 +54,8 @@ steps_over_le Written entry states entries = go (header_refusal entry (length en
   where
     go : (refusal : Option Reason) → header_refusal entry (length entries) ≡ refusal
         → steps_over (header_verdict refusal entry states entries) ≤ length entries
-    go (some reason) e = zero-le
-    go none e =
+    go (Some reason) e = zero-le
+    go None e =
         rw (steps_over_item (payload_refusal entry (take (covered entry) entries)) (usable (covered entry) states) (covered entry))
         (header_fits entry (length entries) e)
 steps_over_le Erased entry states entries = zero-le
@@ -62,9 +63,9 @@ steps_over_le Illegal entry states entries = zero-le
 
 item_kept : (refusal : Option Reason) (all_usable : Bool) (c k : ℕ) → item_verdict refusal all_usable c ≡ Kept k
     → (all_usable ≡ true) × (c ≡ k)
-item_kept (some reason) all_usable c k e = let z : ◌≡◌ {A = ℕ} 0 1 = cc in absurd (omega arith)
-item_kept none true c k e = (refl, cc)
-item_kept none false c k e = let z : ◌≡◌ {A = ℕ} 0 1 = cc in absurd (omega arith)
+item_kept (Some reason) all_usable c k e = let z : ◌≡◌ {A = ℕ} 0 1 = cc in absurd (omega arith)
+item_kept None true c k e = (refl, cc)
+item_kept None false c k e = let z : ◌≡◌ {A = ℕ} 0 1 = cc in absurd (omega arith)
 
 -- a kept header is Written, and the entries that it covers are usable
 pub kept_usable : (s : EntryMapState) (entry : List ℕ) (states : List EntryMapState) (entries : List (List ℕ)) (k : ℕ)
@@ -73,17 +74,14 @@ kept_usable Empty entry states entries k e = let z : ◌≡◌ {A = ℕ} 0 1 = c
 kept_usable Written entry states entries k e = (refl, go (header_refusal entry (length entries)) e)
   where
     go : (refusal : Option Reason) → header_verdict refusal entry states entries ≡ Kept k → usable k states ≡ true
-    go (some reason) kept = let z : ◌≡◌ {A = ℕ} 0 1 = cc in absurd (omega arith)
-    go none kept =
+    go (Some reason) kept = let z : ◌≡◌ {A = ℕ} 0 1 = cc in absurd (omega arith)
+    go None kept =
         let both = item_kept (payload_refusal entry (take (covered entry) entries)) (usable (covered entry) states) (covered entry) k kept in
         ap (λ (n : ℕ). usable n states) (sym both.1) ∙ both.0
 kept_usable Erased entry states entries k e = let z : ◌≡◌ {A = ℕ} 0 1 = cc in absurd (omega arith)
 kept_usable Illegal entry states entries k e = let z : ◌≡◌ {A = ℕ} 0 1 = cc in absurd (omega arith)
 
 -- ---- the verdict at an index
-
-abbrev pub verdict_of : List ℕ → List ℕ → ℕ → Verdict
-verdict_of image map i = verdict_at (state_at map i) (entry_at image i) (drop (i + 1) (states_of map)) (drop (i + 1) (entries_of image))
 
 module _ (image map : List ℕ) (i : ℕ) (long : length map ≡ 32) (inside : i < 126) where
   pub states_behind : length (drop (i + 1) (states_of map)) ≡ 125 - i

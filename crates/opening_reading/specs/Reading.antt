@@ -4,8 +4,7 @@
 -- the free tail; the states that opening leaves.
 -- States and entries are two lists side by side: opening changes states alone.
 -- Verdict and Reason are the code's own enums.
-use Rattle.std.specs.Prelude.{Bool, true, false, ◌&&◌, ◌||◌, not, cond, List, [], ◌∷◌, ◌++◌, ℕ, zero, suc, ◌-◌, ◌*◌, eqb, ltb, length, take}
-use Rattle.std.proofs.Math.Option.{Option, none, some}
+use Rattle.std.specs.Prelude.{Bool, true, false, ◌&&◌, ◌||◌, not, cond, Option, Some, None, List, [], ◌∷◌, ◌++◌, ℕ, zero, suc, ◌-◌, ◌*◌, eqb, ltb, length, take}
 use Rattle.crc.specs.Crc.{crc32}
 use Rattle.flash.specs.Flash.{all_ones}
 use Rattle.sector.specs.declared.EntryMapState.{EntryMapState}
@@ -22,8 +21,8 @@ pub use Rattle.opening_reading.specs.declared.Verdict.TheVariants.{NotAnItem, Re
 
 -- the first rule that applies
 abbrev pub first_rule : List (Bool × Reason) → Option Reason
-first_rule [] = none
-first_rule (rule ∷ rules) = cond rule.0 (some rule.1) (first_rule rules)
+first_rule [] = None
+first_rule (rule ∷ rules) = cond rule.0 (Some rule.1) (first_rule rules)
 
 -- Sized, Blob or BlobData
 abbrev pub is_payload : List ℕ → Bool
@@ -71,7 +70,7 @@ unfoldable pub payload_refusal : List ℕ → List (List ℕ) → Option Reason
 payload_refusal entry entries =
     cond (is_payload entry)
     (first_rule ((size_too_big entry, SizeTooBig) ∷ (payload_crc_wrong entry entries, PayloadCrcWrong) ∷ []))
-    none
+    None
 
 -- neither Erased nor Illegal
 abbrev pub is_usable : EntryMapState → Bool
@@ -89,13 +88,13 @@ usable (suc k) (s ∷ states) = is_usable s && usable k states
 -- ---- the verdict
 
 abbrev pub item_verdict : Option Reason → Bool → ℕ → Verdict
-item_verdict (some reason) all_usable k = RefusedItem reason k
-item_verdict none true k = Kept k
-item_verdict none false k = RefusedItem CoveredNotUsable k
+item_verdict (Some reason) all_usable k = RefusedItem reason k
+item_verdict None true k = Kept k
+item_verdict None false k = RefusedItem CoveredNotUsable k
 
 abbrev pub header_verdict : Option Reason → List ℕ → List EntryMapState → List (List ℕ) → Verdict
-header_verdict (some reason) entry states entries = RefusedEntry reason
-header_verdict none entry states entries =
+header_verdict (Some reason) entry states entries = RefusedEntry reason
+header_verdict None entry states entries =
     item_verdict (payload_refusal entry (take (covered entry) entries)) (usable (covered entry) states) (covered entry)
 
 -- by the entry's state and bytes, and those of the entries after it

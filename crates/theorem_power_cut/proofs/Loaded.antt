@@ -4,7 +4,7 @@
 use mathlib.Core.Path.{◌≡◌, refl, sym, ap, ◌∙◌, subst}
 use mathlib.Core.Bool.{Bool, true, false}
 use mathlib.Core.List.{List, [], ◌∷◌, ◌++◌, Memᴰ, head-eq_of_cons-eq, tail-eq_of_cons-eq}
-use mathlib.Core.Option.{none}
+use Rattle.std.specs.Prelude.{None}
 use Prim.Native.Nat.{ℕ, suc, ◌+◌, ◌-◌, ◌*◌, ◌≤◌, ◌<◌}
 use native.Mathlib.Numerals.{add-one}
 use native.Mathlib.Omega.{arith}
@@ -35,12 +35,12 @@ use Rattle.theorem_power_cut.proofs.Demand.{known, finds_what_was_put}
 
 -- ---- the rules of a payload
 
-no_rule : (big wrong : Bool) → first_rule ((big, SizeTooBig) ∷ (wrong, PayloadCrcWrong) ∷ []) ≡ none → big ≡ false
+no_rule : (big wrong : Bool) → first_rule ((big, SizeTooBig) ∷ (wrong, PayloadCrcWrong) ∷ []) ≡ None → big ≡ false
 no_rule true wrong h = cc
 no_rule false wrong h = refl
 
 -- a payload that no rule refuses fits the entries after its header
-payload_fits : (entry : List ℕ) (entries : Entries) → is_payload entry ≡ true → payload_refusal entry entries ≡ none → size_of entry ≤ 32 * covered entry
+payload_fits : (entry : List ℕ) (entries : Entries) → is_payload entry ≡ true → payload_refusal entry entries ≡ None → size_of entry ≤ 32 * covered entry
 unfolding payload_refusal
 payload_fits entry entries typed h =
     ltb-false (32 * covered entry) (size_of entry) (no_rule (size_too_big entry) (payload_crc_wrong entry entries) (rw typed at h))

@@ -5,7 +5,7 @@ use mathlib.Core.Path.{◌≡◌, refl, sym, ap, ◌∙◌}
 use mathlib.Core.Bool.{Bool, true, false, not, cond, and-false}
 use mathlib.Core.List.{List, [], ◌∷◌, ◌++◌}
 use mathlib.Core.Logic.{◌⊎◌, inl, inr}
-use mathlib.Core.Option.{none}
+use Rattle.std.specs.Prelude.{None}
 use Prim.Native.Nat.{ℕ, ◌-◌, ◌*◌, ◌^◌, ◌≤◌, ◌<◌}
 use native.Mathlib.Omega.{arith}
 use lib.Dec.{eqb}
@@ -93,13 +93,13 @@ module _ (namespace kind span chunk : ℕ) (key bytes : List ℕ) where
 
 -- a header that passes each rule
 header_stands : (entry : List ℕ) (left : ℕ) → all_ones entry ≡ false → known_type entry ≡ true → crc_right entry ≡ true
-    → span_off_page entry left ≡ false → wrong_span entry ≡ false → header_refusal entry left ≡ none
+    → span_off_page entry left ≡ false → wrong_span entry ≡ false → header_refusal entry left ≡ None
 unfolding header_refusal
 header_stands entry left ones known crc off wrong = rw (ones, known, crc, off, wrong)
 
 -- a payload that passes each rule
 payload_stands : (entry : List ℕ) (entries : Entries) → is_payload entry ≡ true → size_of entry ≤ 32 * covered entry
-    → crc32 crc_start (take (size_of entry) (joined entries)) ≡ stored_payload_crc entry → payload_refusal entry entries ≡ none
+    → crc32 crc_start (take (size_of entry) (joined entries)) ≡ stored_payload_crc entry → payload_refusal entry entries ≡ None
 unfolding payload_refusal
 payload_stands entry entries typed size crc =
     rw (typed, le-ltb (32 * covered entry) (size_of entry) size, eq-eqb (crc32 crc_start (take (size_of entry) (joined entries))) (stored_payload_crc entry) crc)

@@ -4,7 +4,7 @@
 use mathlib.Core.Path.{◌≡◌, sym}
 use mathlib.Core.Bool.{Bool, true, false, and-eq-true_iff}
 use mathlib.Core.List.{List, [], ◌∷◌}
-use mathlib.Core.Option.{some}
+use Rattle.std.specs.Prelude.{Some}
 use Prim.Native.Nat.{ℕ, zero, suc, ◌≤◌, zero-le}
 use native.Mathlib.Nat.{le_of_suc-le-suc, not-suc-le-zero, suc_inj, suc-ne-zero}
 use lib.ListN.{length}
@@ -24,7 +24,7 @@ pub data Course : ℕ → EntryMapState → States → Entries → Type 0 where
   meets_illegal : {states : States} {entries : Entries} (entry : List ℕ) → Course zero Erased states entries
       → Course zero Erased (Illegal ∷ states) (entry ∷ entries)
   refuses_entry : {reason : Reason} {states : States} {entries : Entries} (entry : List ℕ)
-      → header_refusal entry (length entries) ≡ some reason → Course zero Erased states entries
+      → header_refusal entry (length entries) ≡ Some reason → Course zero Erased states entries
       → Course zero Erased (Written ∷ states) (entry ∷ entries)
   refuses_item : {reason : Reason} {k : ℕ} {states : States} {entries : Entries} (entry : List ℕ)
       → Spoiled reason entry k states entries → Course k Erased states entries

@@ -4,7 +4,7 @@
 use mathlib.Core.Path.{◌≡◌, refl, ap}
 use mathlib.Core.Bool.{Bool, true, false, false≢true, and-eq-true_iff}
 use mathlib.Core.List.{List, [], ◌∷◌}
-use mathlib.Core.Option.{Option, none, some}
+use Rattle.std.specs.Prelude.{Option, Some, None}
 use Prim.Native.Nat.{ℕ, zero, suc}
 use lib.ListN.{length, take}
 use Rattle.sector.specs.declared.EntryMapState.{EntryMapState}
@@ -53,14 +53,14 @@ spoiled_same : {reason : Reason} {entry : List ℕ} {k : ℕ} {states : States} 
     → Spoiled reason entry k states entries → (other : Reason) × Spoiled other entry k states bytes
 spoiled_same {reason} {entry} {k} {states} {bytes} {entries} d s = by (usable k states) refl (payload_refusal entry (take k bytes)) refl
   where
-    header : header_refusal entry (length bytes) ≡ none
+    header : header_refusal entry (length bytes) ≡ None
     header = rw (length_same d) s.header
 
     by : (clear : Bool) → usable k states ≡ clear → (payload : Option Reason) → payload_refusal entry (take k bytes) ≡ payload
         → (other : Reason) × Spoiled other entry k states bytes
     by true u p e = (reason, record { header = header; span = s.span; refused = rw (take_same k u d) s.refused })
-    by false u none e = (CoveredNotUsable, record { header = header; span = s.span; refused = rw (e, u) })
-    by false u (some other) e = (other, record { header = header; span = s.span; refused = rw e })
+    by false u None e = (CoveredNotUsable, record { header = header; span = s.span; refused = rw (e, u) })
+    by false u (Some other) e = (other, record { header = header; span = s.span; refused = rw e })
 
 -- ---- the theorem
 

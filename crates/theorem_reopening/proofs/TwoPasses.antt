@@ -5,7 +5,7 @@
 use mathlib.Core.Path.{◌≡◌, refl, ap₂}
 use mathlib.Core.Bool.{Bool, true, false, ◌&&◌, not, cond, false≢true, and-eq-true_iff}
 use mathlib.Core.List.{List, [], ◌∷◌}
-use mathlib.Core.Option.{Option, none, some}
+use Rattle.std.specs.Prelude.{Option, Some, None}
 use Prim.Native.Nat.{ℕ, zero, suc}
 use lib.ListN.{length, take}
 use Rattle.flash.specs.Flash.{all_ones}
@@ -38,7 +38,7 @@ data Passes : ℕ → EntryMapState → States → States → States → Entries
   shuts_illegal : {old first new : States} {entries : Entries} (entry : List ℕ) → Passes zero Erased old first new entries
       → Passes zero Erased (Illegal ∷ old) (Illegal ∷ first) (Erased ∷ new) (entry ∷ entries)
   refuses_entry : {reason : Reason} {old first new : States} {entries : Entries} (entry : List ℕ)
-      → header_refusal entry (length entries) ≡ some reason → Passes zero Erased old first new entries
+      → header_refusal entry (length entries) ≡ Some reason → Passes zero Erased old first new entries
       → Passes zero Erased (Written ∷ old) (Erased ∷ first) (Erased ∷ new) (entry ∷ entries)
   -- the header of a refused item waits for the second pass
   refuses_item : {reason : Reason} {k : ℕ} {old first new : States} {entries : Entries} (entry : List ℕ)
@@ -90,10 +90,10 @@ spoiled_midway {reason} {entry} {k} {old} {mid} {entries} clear s =
   where
     by : (payload : Option Reason) (before now : Bool) → (now ≡ true → before ≡ true) → item_verdict payload before k ≡ RefusedItem reason k
         → item_verdict payload now k ≡ RefusedItem reason k
-    by (some other) before now u e = e
-    by none true now u e = cc
-    by none false true u e = absurd (false≢true (u refl))
-    by none false false u e = e
+    by (Some other) before now u e = e
+    by None true now u e = cc
+    by None false true u e = absurd (false≢true (u refl))
+    by None false false u e = e
 
 gone_upper_cleared : (s : EntryMapState) → Gone (upper_cleared s)
 gone_upper_cleared Empty = is_illegal

@@ -1,43 +1,23 @@
--- `opening_reading::all_usable` meets its contract: what is left to test decides as the whole does, since all before is usable.
-use mathlib.Core.Path.{◌≡◌, sym, ◌∙◌}
-use mathlib.Core.Bool.{◌&&◌}
-use Prim.Native.Nat.{suc, ◌+◌, ◌-◌}
-use native.Mathlib.Nat.{add-zero, sub-zero}
-use native.Mathlib.Omega.{arith}
-use borrow.Author.Rules.{rules}
-use lib.ListN.{length, drop}
-use Rattle.sector.specs.Map.{states_of}
-use Rattle.opening_reading.specs.Reading.{usable}
+-- `opening_reading::all_usable` meets its contract: each state is asked of the map at its index.
+use Rattle.std.proofs.Common.{◌≡◌, refl, sym, ap, ◌∙◌, Bool, ◌&&◌, ℕ, zero, suc, ◌+◌, ◌≤◌, List, length, drop, arith, rules}
+use Rattle.std.specs.List.{list_all, range_with_len}
+use Rattle.std.proofs.lemmas.Iterator.{YieldsList-from_range}
+use Rattle.std.proofs.lemmas.Iterator.Search.{all_from_yields_List}
+use Rattle.sector.specs.Map.{state_at, states_of}
+use Rattle.opening_reading.specs.Reading.{is_usable, usable}
 use Rattle.opening_reading.proofs.Entries.{states_from}
 use Rattle.opening_reading.proofs.all_usable.Goals as goal
 
-pub loop-k-init : goal.loop-k-init
-loop-k-init c =
-    (search rules, rw (sub-zero, add-zero))
-
-pub returns-then-not-is_usable : goal.returns-then-not-is_usable
-returns-then-not-is_usable c =
-    let next : let args = c.args in let k = c.loop-k.k in usable args.count (drop args.first (states_of args.map)) ≡ (c.is_usable.result && usable (args.count - (k + 1)) (drop (args.first + (k + 1)) (states_of args.map))) = let args = c.args in
-    let at = c.loop-k in
-    let left : args.count - at.k ≡ suc (args.count - (at.k + 1)) = omega arith in
-    let after : args.first + at.k + 1 ≡ args.first + (at.k + 1) = omega arith in
-    let full : length args.map ≡ 32 = omega arith in
-    sym at.invariant.1 ∙ rw (left, states_from args.map (args.first + at.k) full (omega arith), after, c.is_usable.ensures, c.state_at.ensures) in
-    sym (rw (c.if-not-is_usable.true) at next)
-
-pub loop-k-preserved : goal.loop-k-preserved
-loop-k-preserved c =
-    let next : let args = c.args in let k = c.loop-k.k in usable args.count (drop args.first (states_of args.map)) ≡ (c.is_usable.result && usable (args.count - (k + 1)) (drop (args.first + (k + 1)) (states_of args.map))) = let args = c.args in
-    let at = c.loop-k in
-    let left : args.count - at.k ≡ suc (args.count - (at.k + 1)) = omega arith in
-    let after : args.first + at.k + 1 ≡ args.first + (at.k + 1) = omega arith in
-    let full : length args.map ≡ 32 = omega arith in
-    sym at.invariant.1 ∙ rw (left, states_from args.map (args.first + at.k) full (omega arith), after, c.is_usable.ensures, c.state_at.ensures) in
-    (search rules, sym (rw (c.if-not-is_usable.false) at next))
+usable_range : (map : List ℕ) (first count : ℕ) → length map ≡ 32 → first + count ≤ 126
+    → usable count (drop first (states_of map)) ≡ list_all (λ index. is_usable (state_at map index)) (range_with_len first count)
+usable_range map first zero long fits = refl
+usable_range map first (suc count) long fits =
+    rw (states_from map first long (omega arith))
+    (ap (λ (rest : Bool). is_usable (state_at map first) && rest) (usable_range map (first + 1) count long (omega arith)))
 
 pub returns : goal.returns
 returns c =
     let args = c.args in
-    let at = c.loop-k in
-    let none : args.count - at.k ≡ 0 = omega arith in
-    rw none at at.invariant.1
+    let long : length args.map ≡ 32 = omega arith in
+    all_from_yields_List (λ index. is_usable (state_at args.map index)) _ _ _ c.all.ensures.ran (YieldsList-from_range args.first (args.first + args.count) args.count refl (omega arith)) (λ x b q k. search rules)
+    ∙ sym (usable_range args.map args.first args.count long (omega arith))
