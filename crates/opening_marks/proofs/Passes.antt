@@ -14,7 +14,7 @@ use Rattle.sector.specs.declared.EntryMapState.{EntryMapState}
 use Rattle.sector.specs.declared.EntryMapState.TheVariants.{Empty, Written, Erased, Illegal}
 use Rattle.sector.specs.Layout.{entries_per_page, map_offset, same_bytes}
 use Rattle.sector.specs.Map.{unpack, states_of, state_at, same_state, pack, mark_range}
-use Rattle.sector.proofs.Laws.{field_cons, length-states_of, get_d_states_of, length-mark_range}
+use Rattle.sector.proofs.Laws.{length-states_of, get_d_states_of, length-mark_range}
 use Rattle.sector.proofs.Marks.{both, take_marked, drop_marked, get_d_marked_same, states_of-mark_range, unpack-mark_range, bytes_mark_range, pack_unpack}
 use Rattle.opening_reading.specs.Reading.{shut}
 use Rattle.opening_marks.specs.Marks.{HasStates, upper_cleared, first_pass, map_unit, changed_unit, changed_units, shut_to}
@@ -30,18 +30,6 @@ pub has_states : {before after : List ℕ} {states : List EntryMapState} → Byt
 has_states b h = map_states b ∙ ap₂ (λ (front spare : List EntryMapState). pack (front ++ spare)) h.states_are h.spare
 
 -- ---- units
-
--- the four bytes of a unit
-pub unit_bytes : (map : List ℕ) (j : ℕ) → 4 * j + 4 ≤ length map
-    → map_unit j map ≡ get_or map (4 * j) 0 ∷ get_or map (4 * j + 1) 0 ∷ get_or map (4 * j + 2) 0 ∷ get_or map (4 * j + 3) 0 ∷ []
-unit_bytes map j h =
-    let start : ℕ = 4 * j in
-    let second : start + 1 + 1 ≡ start + 2 = omega arith in
-    let third : start + 2 + 1 ≡ start + 3 = omega arith in
-    field_cons start 3 map (omega arith)
-    ∙ ap (λ (rest : List ℕ). get_or map start 0 ∷ rest) (field_cons (start + 1) 2 map (omega arith) ∙ rw second
-    (ap (λ (rest : List ℕ). get_or map (start + 1) 0 ∷ rest) (field_cons (start + 2) 1 map (omega arith) ∙ rw third
-    (ap (λ (rest : List ℕ). get_or map (start + 2) 0 ∷ rest) (field_cons (start + 3) 0 map (omega arith))))))
 
 -- one unit more
 pub changed_more : (j n : ℕ) (old new : List ℕ) → changed_units j (suc n) old new ≡ changed_units j n old new ++ changed_unit (j + n) old new

@@ -10,38 +10,13 @@ ghost use Rattle.opening_marks.specs.Marks.{HasStates, shut_to, first_pass, map_
 
 use sector::{ENTRIES_PER_PAGE, EntryMapState, MAP_OFFSET, layout};
 
-fn is_empty(state: EntryMapState) -> bool
-    ensures { result ≡ is_empty state }
-{
-    match state {
-        EntryMapState::Empty => true,
-        EntryMapState::Written => false,
-        EntryMapState::Erased => false,
-        EntryMapState::Illegal => false,
-    }
-}
-
-fn is_erased(state: EntryMapState) -> bool
-    ensures { result ≡ same_state state EntryMapState.Erased }
-{
-    match state {
-        EntryMapState::Empty => false,
-        EntryMapState::Written => false,
-        EntryMapState::Erased => true,
-        EntryMapState::Illegal => false,
-    }
-}
-
 // Whether an entry can be of the free tail: Empty, and all 0xFF.
 fn is_free(image: &[u8], map: [u8; 32], index: usize) -> bool
     requires { (length image.now ≡ sector_size) × (index < entries_per_page) }
     ensures { result ≡ (is_empty (state_at map index) && all_ones (entry_at image.now index)) }
 {
-    if !is_empty(sector_map::state_at(map, index)) {
-        return false;
-    }
-    let entry = layout::entry_at(image, index);
-    flash::all_ones(&entry)
+    sector_map::state_at(map, index) == EntryMapState::Empty
+        && flash::all_ones(&layout::entry_at(image, index))
 }
 
 // Where the free tail starts, from the page's end down.
@@ -49,14 +24,12 @@ fn tail_start(image: &[u8], map: [u8; 32]) -> usize
     requires { length image.now ≡ sector_size }
     ensures { (result ≤ entries_per_page) × (shut_before_tail (states_of map) (entries_of image.now) ≡ shut_to result (states_of map)) }
 {
-    let mut start = ENTRIES_PER_PAGE;
-    while start > 0 {
-        if !is_free(image, map, start - 1) {
-            return start;
+    for index in (0..ENTRIES_PER_PAGE).rev() {
+        if !is_free(image, map, index) {
+            return index + 1;
         }
-        start -= 1;
     }
-    start
+    0
 }
 
 // The map with an entry Erased, unless it is Written.
@@ -64,7 +37,7 @@ fn shut_entry(map: [u8; 32], index: usize) -> [u8; 32]
     requires { index < entries_per_page }
     ensures { result ≡ cond (same_state (state_at map index) EntryMapState.Written) map (mark_range EntryMapState.Erased index 1 map) }
 {
-    if sector_map::is_written(sector_map::state_at(map, index)) {
+    if sector_map::state_at(map, index) == EntryMapState::Written {
         return map;
     }
     sector_map::mark_range(map, EntryMapState::Erased, index, 1)
@@ -75,12 +48,7 @@ fn shut_to(map: [u8; 32], end: usize) -> [u8; 32]
     requires { end ≤ entries_per_page }
     ensures { HasStates map (shut_to end (states_of map)) result }
 {
-    let mut marked = map;
-    for index in 0..end {
-        let next = shut_entry(marked, index);
-        marked = next;
-    }
-    marked
+    (0..end).fold(map, shut_entry)
 }
 
 // Before the free tail every Empty or Illegal entry becomes Erased.
@@ -97,13 +65,10 @@ fn clear_upper(map: [u8; 32], opened: [u8; 32], head: bool, index: usize) -> [u8
     requires { index < entries_per_page }
     ensures { result ≡ cond (same_state (state_at opened index) EntryMapState.Erased && not head) (mark_range EntryMapState.Illegal index 1 map) map }
 {
-    if !is_erased(sector_map::state_at(opened, index)) {
-        return map;
+    if sector_map::state_at(opened, index) == EntryMapState::Erased && !head {
+        return sector_map::mark_range(map, EntryMapState::Illegal, index, 1);
     }
-    if head {
-        return map;
-    }
-    sector_map::mark_range(map, EntryMapState::Illegal, index, 1)
+    map
 }
 
 // The map after the first pass, from the map before opening, the one that it leaves, and the refused headers.
@@ -111,8 +76,8 @@ pub fn first_pass(map: [u8; 32], opened: [u8; 32], heads: [bool; 126]) -> [u8; 3
     ensures { HasStates map (first_pass (states_of map) (states_of opened) heads) result }
 {
     let mut marked = map;
-    for index in 0..ENTRIES_PER_PAGE {
-        let next = clear_upper(marked, opened, heads[index], index);
+    for (index, head) in heads.iter().enumerate() {
+        let next = clear_upper(marked, opened, *head, index);
         marked = next;
     }
     marked
@@ -124,20 +89,12 @@ fn same_unit(old: [u8; 32], new: [u8; 32], unit: usize) -> bool
     ensures { result ≡ same_bytes (map_unit unit old) (map_unit unit new) }
 {
     let start = 4 * unit;
-    if old[start] != new[start] {
-        return false;
-    }
-    if old[start + 1] != new[start + 1] {
-        return false;
-    }
-    if old[start + 2] != new[start + 2] {
-        return false;
-    }
-    old[start + 3] == new[start + 3]
+    old[start..start + 4] == new[start..start + 4]
 }
 
 // Programs a unit of the new map, unless it is as in the old one or the budget has no unit left, and returns how many units
 // it has.
+#[tactic(auto, unfolding(flash::specs::Flash::run))]
 fn program_unit(image: &mut [u8], old: [u8; 32], new: [u8; 32], unit: usize, budget: usize) -> usize
     requires { (length image.old ≡ sector_size) × (unit < 8) }
     ensures total { result ≡ length (changed_unit unit old new) }
@@ -159,8 +116,7 @@ pub fn program_changes(image: &mut [u8], old: [u8; 32], new: [u8; 32], budget: u
 {
     let mut done: usize = 0;
     for unit in 0..8usize {
-        let units = program_unit(image, old, new, unit, flash::remaining(budget, done));
-        done += units;
+        done += program_unit(image, old, new, unit, flash::remaining(budget, done));
     }
     done
 }

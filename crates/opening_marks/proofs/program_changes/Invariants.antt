@@ -1,6 +1,6 @@
 -- `opening_marks::program_changes` meets its contract: the units looked at so far are done under the budget, and counted.
 use mathlib.Core.Path.{◌≡◌}
-use Prim.Native.Nat.{◌-◌, ◌≤◌}
+use Prim.Native.Nat.{◌≤◌}
 use lib.ListN.{length, take}
 use Rattle.flash.specs.Flash.{run}
 use Rattle.opening_marks.specs.Marks.{changed_units}
