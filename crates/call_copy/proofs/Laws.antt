@@ -10,10 +10,12 @@ use lib.ListN.{length, get_or, take, drop}
 use borrow.Author.Tests.{eqb-true, eqb-false, ltb-true, ltb-false, not-false}
 use Rattle.flash.specs.Flash.{units}
 use Rattle.flash.proofs.Laws.{neither}
-use Rattle.sector.proofs.Laws.{accepted_at}
+use Rattle.std.specs.Prelude.{is_ok}
+use Rattle.sector.proofs.Laws.{accepted_at, accepted_done}
 use Rattle.page.specs.Record.{Page, next_free, free, fit_to_use, with_item}
 use Rattle.page.specs.Writing.{full_units, item_plan}
-use Rattle.sector.specs.Answers.{Done, accepted}
+use Rattle.sector.specs.declared.Refusal.TheVariants.{Stopped}
+use Rattle.sector.specs.Answers.{Answer, refusal}
 use Rattle.sector.specs.Item.{hash_of_item}
 use Rattle.sector.specs.Layout.{sector_size, entries_per_page, entry_size, entry_address, entry_at, namespace_of, span_of}
 use Rattle.sector.specs.Map.{map_units}
@@ -31,9 +33,12 @@ pub record CopyFits (image : List ℕ) (page : Page) (source : List ℕ) (i : �
   pub spans : i + span_of (entry_at source i) ≤ entries_per_page
   pub room : next_free page + span_of (entry_at source i) ≤ entries_per_page
 
-pub copy_fits : (image : List ℕ) (page : Page) (source : List ℕ) (i : ℕ) → accepted (copy_checks image page source i) ≡ true → CopyFits image page source i
-copy_fits image page source i h =
-    let at : (n : ℕ) → (get_or (copy_checks image page source i) n (false, Done)).0 ≡ false = λ n. accepted_at (copy_checks image page source i) n h in
+pub copy_fits : (image : List ℕ) (page : Page) (source : List ℕ) (i : ℕ) {answer : Answer}
+    → answer ≡ refusal (copy_checks image page source i) → is_ok answer ≡ true → CopyFits image page source i
+copy_fits image page source i e done =
+    let checks = copy_checks image page source i in
+    let h = accepted_done checks e done in
+    let at : (n : ℕ) → (get_or checks n (false, Stopped)).0 ≡ false = λ n. accepted_at checks n h in
     let span : ℕ = span_of (entry_at source i) in
     let range = neither (eqb span 0) (ltb entries_per_page (i + span)) (at 6) in
     let some = pos_of_ne-zero (eqb-false span 0 range.0) in

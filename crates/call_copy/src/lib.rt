@@ -9,53 +9,50 @@ ghost use Rattle.sector.specs.Item.{loads};
 ghost use Rattle.sector.specs.Layout.{entries_per_page, span_of};
 ghost use Rattle.call_copy.specs.Copy.{copy_checks, copy_in, copy_in_image};
 
-use page::{Outcome, ThinPage};
-use sector::{Answer, ENTRIES_PER_PAGE, SECTOR_SIZE, answers, layout};
+use page::ThinPage;
+use sector::{ENTRIES_PER_PAGE, Refusal, SECTOR_SIZE, layout};
 
 // ---- checks
 
 // Whether an entry heads an item that the page has room for: KeyNotFound where it does not load, CorruptedData where its
 // span is 0 or leaves the source, PageFull.
-fn item_refusal(page: ThinPage, entry: [u8; 32], index: usize) -> Answer
+fn item_refusal(page: &ThinPage, entry: [u8; 32], index: usize) -> Result<(), Refusal>
     requires { index < entries_per_page }
     ensures { result ≡ refusal (
         (not (loads entry), KeyNotFound)
         ∷ (eqb (span_of entry) 0 || ltb entries_per_page (index + span_of entry), CorruptedData)
-        ∷ over_free page (span_of entry)
+        ∷ over_free page.now (span_of entry)
         ∷ []) }
 {
     if !sector_item::loads(entry) {
-        return Answer::KeyNotFound;
+        return Err(Refusal::KeyNotFound);
     }
     let span = entry[2] as usize;
     if span == 0 {
-        return Answer::CorruptedData;
+        return Err(Refusal::CorruptedData);
     }
     if span > ENTRIES_PER_PAGE - index {
-        return Answer::CorruptedData;
+        return Err(Refusal::CorruptedData);
     }
-    if span > page_write::get_free_entry_count(page) {
-        return Answer::PageFull;
+    if span > page.get_free_entry_count() {
+        return Err(Refusal::PageFull);
     }
-    Answer::Done
+    Ok(())
 }
 
-// The first check that refuses, in document 01's order, or Done.
-fn copy_refusal(image: &[u8], page: ThinPage, source: &[u8], index: usize) -> Answer
-    ensures { result ≡ refusal (copy_checks image.now page source.now index) }
+// The first check that refuses, in document 01's order.
+fn copy_refusal(image: &[u8], page: &ThinPage, source: &[u8], index: usize) -> Result<(), Refusal>
+    ensures { result ≡ refusal (copy_checks image.now page.now source.now index) }
 {
     if image.len() != SECTOR_SIZE {
-        return Answer::BadImage;
+        return Err(Refusal::BadImage);
     }
     if source.len() != SECTOR_SIZE {
-        return Answer::BadImage;
+        return Err(Refusal::BadImage);
     }
-    let refused = page_write::active_refusal(page);
-    if !answers::is_done(refused) {
-        return refused;
-    }
+    page_write::active_refusal(page)?;
     if index >= ENTRIES_PER_PAGE {
-        return Answer::CorruptedData;
+        return Err(Refusal::CorruptedData);
     }
     let entry = layout::entry_at(source, index);
     item_refusal(page, entry, index)
@@ -71,29 +68,23 @@ fn copy_refusal(image: &[u8], page: ThinPage, source: &[u8], index: usize) -> An
 // (CorruptedData), PageFull. The Rust is handed the item by its caller, who loaded it, and checks the last two alone.
 pub fn copy_item_from(
     image: &mut [u8],
-    page: ThinPage,
+    page: &mut ThinPage,
     source: &[u8],
     index: usize,
     stop: usize,
-) -> Outcome
-    ensures answer { result ≡ copy_in image.old page source.now index stop }
-    ensures image { image.new ≡ copy_in_image image.old page source.now index stop }
+) -> Result<(), Refusal>
+    ensures answer { result ≡ (copy_in image.old page.old source.now index stop).answer }
+    ensures page { page.new ≡ (copy_in image.old page.old source.now index stop).page }
+    ensures image { image.new ≡ copy_in_image image.old page.old source.now index stop }
 {
-    let refused = copy_refusal(image, page, source, index);
-    if !answers::is_done(refused) {
-        return Outcome {
-            answer: refused,
-            page,
-        };
-    }
+    copy_refusal(image, page, source, index)?;
     let entry = layout::entry_at(source, index);
     let span = entry[2] as usize;
     let hash = sector_hash::hash_of_item(entry);
     let new = page_write::with_item(page, span, entry[0], hash);
-    let map = new.map;
-    let start = page_write::get_next_free_entry(page);
+    let start = page.get_next_free_entry();
     let first = layout::entry_address(index);
     let end = layout::entry_address(index + span);
-    let total = page_write::write_entries(image, &source[first..end], map, start, span, stop);
+    let total = page_write::write_entries(image, &source[first..end], new.map, start, span, stop);
     page_write::ended(page, new, stop, total)
 }
