@@ -3,7 +3,7 @@
 -- In order: the checks; the answer and the output. The payload CRC is not checked here.
 use Rattle.std.specs.Prelude.{not, cond, List, [], ◌∷◌, ◌++◌, ℕ, ◌+◌, ◌-◌, ◌*◌, ◌/◌, eqb, ltb, length, take, drop}
 use Rattle.sector.specs.declared.Refusal.TheVariants.{ItemTypeMismatch, CorruptedData}
-use Rattle.sector.specs.Answers.{Done, Check, refusal, accepted}
+use Rattle.sector.specs.Answers.{Answer, Done, Check, refusal, accepted}
 use Rattle.sector.specs.Layout.{entries_per_page, entry_size, entry_address, entry_at, span_of, size_of, type_byte_of}
 use Rattle.sector.specs.Types.{item_type, has_payload}
 use Rattle.call_load.specs.Load.{load_checks}
