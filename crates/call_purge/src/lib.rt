@@ -6,7 +6,7 @@ ghost use Rattle.flash.specs.Flash.{units, run};
 ghost use Rattle.sector.specs.Layout.{sector_size, entries_per_page, entry_size, entry_address};
 ghost use Rattle.call_purge.specs.Purge.{held_span, purge, purge_image};
 
-use sector::{Answer, ENTRIES_PER_PAGE, SECTOR_SIZE, layout};
+use sector::{ENTRIES_PER_PAGE, Refusal, SECTOR_SIZE, layout};
 
 // A unit is four bytes: an entry has eight.
 const UNITS: usize = 8;
@@ -35,29 +35,23 @@ fn held_span(index: usize, span: usize) -> usize
     requires { index < entries_per_page }
     ensures { result ≡ held_span index span }
 {
-    if span == 0 {
-        return 1;
-    }
-    if span > ENTRIES_PER_PAGE - index {
-        return ENTRIES_PER_PAGE - index;
-    }
-    span
+    span.clamp(1, ENTRIES_PER_PAGE - index)
 }
 
 // Zeroes entries from an index on (`ThinPage::purge_entries`), at least one and none past the page; an index over 125 does
 // nothing. The map stays as it is, so no record is taken.
 //
 // Refuses only an image that is not 4,096 bytes (BadImage), of which the Rust knows nothing.
-pub fn purge_entries(image: &mut [u8], index: usize, span: usize) -> Answer
+pub fn purge_entries(image: &mut [u8], index: usize, span: usize) -> Result<(), Refusal>
     ensures answer { result ≡ purge image.old }
     ensures image { image.new ≡ purge_image image.old index span }
 {
     if image.len() != SECTOR_SIZE {
-        return Answer::BadImage;
+        return Err(Refusal::BadImage);
     }
     if index >= ENTRIES_PER_PAGE {
-        return Answer::Done;
+        return Ok(());
     }
     zero_entries(image, index, held_span(index, span));
-    Answer::Done
+    Ok(())
 }

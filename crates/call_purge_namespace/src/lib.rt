@@ -8,8 +8,8 @@ ghost use Rattle.sector.specs.Layout.{sector_size, entries_of};
 ghost use Rattle.sector.specs.Map.{states_of};
 ghost use Rattle.call_purge_namespace.specs.PurgeNamespace.{behind_header, purged, passed, to_zero, zero_units, purge_namespace, purge_namespace_image};
 
-use page::{Outcome, ThinPage, fit};
-use sector::{Answer, EntryMapState, SECTOR_SIZE, layout};
+use page::ThinPage;
+use sector::{EntryMapState, Refusal, SECTOR_SIZE, layout};
 
 // What the walk does at an entry: whether the entry is zeroed, and how many of the following entries share its fate.
 #[derive(Clone, Copy)]
@@ -30,7 +30,7 @@ fn step_over(entry: [u8; 32], zeroed: bool) -> Step
     }
     Step {
         zeroed,
-        behind: flash::remaining(entry[2] as usize, 1),
+        behind: (entry[2] as usize).saturating_sub(1),
     }
 }
 
@@ -38,13 +38,9 @@ fn step_at(state: EntryMapState, entry: [u8; 32], namespace: u8) -> Step
     ensures { (result.zeroed ≡ purged namespace state entry) × (result.behind ≡ passed state entry) }
 {
     match state {
-        EntryMapState::Empty => Step {
-            zeroed: false,
-            behind: 0,
-        },
         EntryMapState::Written => step_over(entry, false),
         EntryMapState::Erased => step_over(entry, entry[0] == namespace),
-        EntryMapState::Illegal => Step {
+        EntryMapState::Empty | EntryMapState::Illegal => Step {
             zeroed: false,
             behind: 0,
         },
@@ -91,31 +87,25 @@ fn zero_marked(image: &mut [u8], marks: [bool; 126])
     }
 }
 
-// Zeroes the Erased items of a namespace (`ThinPage::purge_erased_for_namespace`); the record comes back as it was.
+// Zeroes the Erased items of a namespace (`ThinPage::purge_erased_for_namespace`); the record is read alone.
 //
 // Refuses, in this order: BadImage, BadRecord; in any state. Which entries to zero is found out first. The Rust zeroes as it
 // walks. It never comes back to an entry, so it reads the same items.
-pub fn purge_erased_for_namespace(image: &mut [u8], page: ThinPage, namespace: u8) -> Outcome
-    ensures answer { result ≡ purge_namespace image.old page namespace }
-    ensures image { image.new ≡ purge_namespace_image image.old page namespace }
+pub fn purge_erased_for_namespace(
+    image: &mut [u8],
+    page: &ThinPage,
+    namespace: u8,
+) -> Result<(), Refusal>
+    ensures answer { result ≡ (purge_namespace image.old page.now namespace).answer }
+    ensures image { image.new ≡ purge_namespace_image image.old page.now namespace }
 {
     if image.len() != SECTOR_SIZE {
-        return Outcome {
-            answer: Answer::BadImage,
-            page,
-        };
+        return Err(Refusal::BadImage);
     }
-    if !fit::fit_to_use(page) {
-        return Outcome {
-            answer: Answer::BadRecord,
-            page,
-        };
+    if !page.fit_to_use() {
+        return Err(Refusal::BadRecord);
     }
-    let map = page.map;
-    let marks = to_zero(image, map, namespace);
+    let marks = to_zero(image, page.map, namespace);
     zero_marked(image, marks);
-    Outcome {
-        answer: Answer::Done,
-        page,
-    }
+    Ok(())
 }

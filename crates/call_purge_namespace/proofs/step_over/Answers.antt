@@ -8,4 +8,4 @@ returns-then-not-loads c =
 
 pub returns : goal.returns
 returns c =
-    rw (sym c.loads.ensures ∙ c.if-not-loads.false) (refl, c.remaining.ensures)
+    rw (sym c.loads.ensures ∙ c.if-not-loads.false) (refl, c.saturating_sub.ensures)
