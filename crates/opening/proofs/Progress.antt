@@ -7,12 +7,10 @@ use native.Mathlib.Nat.{le_of_suc-le-suc, not-suc-le-zero, le_refl, add-zero}
 use native.Mathlib.Numerals.{add-one}
 use native.Mathlib.Omega.{arith}
 use lib.Dec.{eqb}
-use lib.ListN.{length, take, drop, set, replicate, length-drop, length-set, length-replicate, length-append, take-append-drop}
+use lib.ListN.{length, take, drop, set, replicate, length-drop, length-set, length-replicate, length-append}
 use lib.Seq.{take-add, drop-drop, take_at, take-set-le, drop-set-add, take_all}
 use Rattle.flash.proofs.Laws.{Bytes}
 use Rattle.page.specs.declared.Listed.{Listed}
-use Rattle.page.specs.Record.{padded}
-use Rattle.page.proofs.Laws.{padded_more}
 use Rattle.sector.specs.declared.EntryMapState.{EntryMapState}
 use Rattle.sector.specs.declared.EntryMapState.TheVariants.{Written, Erased}
 use Rattle.sector.specs.Item.{hash_of_item}
@@ -20,16 +18,16 @@ use Rattle.sector.specs.Layout.{entries_per_page, entry_at, entries_of, namespac
 use Rattle.sector.specs.Map.{unpack, states_of, state_at, mark_range}
 use Rattle.sector.proofs.Laws.{drop_replicate, length-states_of, length-mark_range}
 use Rattle.sector.proofs.Marks.{marked, take_marked, drop_marked, marked_erased, states_of-mark_range, unpack-mark_range, bytes_mark_range}
-use Rattle.opening.specs.declared.Listing.{Listing}
 use Rattle.opening_reading.specs.declared.Verdict.{Verdict}
 use Rattle.opening_reading.specs.declared.Verdict.TheVariants.{NotAnItem, RefusedEntry, RefusedItem, Kept}
 use Rattle.opening_reading.specs.Reading.{is_usable, usable, steps_over, mark_of, mark_behind, walk, kept_from}
 use Rattle.opening_marks.specs.Marks.{HasStates}
 use Rattle.opening.specs.Opening.{is_refused_item, refused_headers, listed_items}
-use Rattle.opening.specs.Steps.{marked_by, listing_of, with_listed, listed_by}
+use Rattle.opening.specs.Steps.{marked_by, with_listed, listed_by}
 use Rattle.opening_reading.proofs.Entries.{states_from, states_past}
 use Rattle.opening_reading.proofs.Midway.{both_written}
-use Rattle.opening_reading.proofs.Steps.{kept_usable, verdict_of, states_behind, steps_inside, steps_states, steps_entries, here, after, walk_from, kept_from_lem}
+use Rattle.opening_reading.specs.Walk.{verdict_of}
+use Rattle.opening_reading.proofs.Steps.{kept_usable, states_behind, steps_inside, steps_states, steps_entries, here, after, walk_from, kept_from_lem}
 
 -- ---- lists done so far
 
@@ -221,64 +219,47 @@ heads_step image map heads i long inside to =
 
 -- ---- the list
 
--- up to i the kept items outside namespace 0 have their places, and those from i on are left
-pub record ListedTo (image map : List ℕ) (listing : Listing) (i : ℕ) : Type 0 where
-  pub places : listing ≡ listing_of (take listing.len (listed_items (kept_from zero zero (states_of map) (entries_of image))))
-  pub left : drop listing.len (listed_items (kept_from zero zero (states_of map) (entries_of image)))
-      ≡ listed_items (kept_from zero i (drop i (states_of map)) (drop i (entries_of image)))
-  pub within : listing.len ≤ i
+-- up to i the kept items outside namespace 0 are listed, and those from i on are left
+pub record ListedTo (image map : List ℕ) (places : List Listed) (i : ℕ) : Type 0 where
+  pub done : places ++ listed_items (kept_from zero i (drop i (states_of map)) (drop i (entries_of image)))
+      ≡ listed_items (kept_from zero zero (states_of map) (entries_of image))
+  pub within : length places ≤ i
 
-pub listed_start : (image map : List ℕ) → ListedTo image map (listing_of []) 0
-listed_start image map = record { places = refl; left = refl; within = le_refl 0 }
+pub listed_start : (image map : List ℕ) → ListedTo image map [] 0
+listed_start image map = record { done = refl; within = le_refl 0 }
 
-pub listed_end : (image map : List ℕ) (listing : Listing) (i : ℕ) → length map ≡ 32 → i ≡ 126 → ListedTo image map listing i
-    → listing ≡ listing_of (listed_items (kept_from zero zero (states_of map) (entries_of image)))
-listed_end image map listing i long e to =
-    let all = listed_items (kept_from zero zero (states_of map) (entries_of image)) in
-    let none : drop listing.len all ≡ [] = to.left ∙ rw (states_past map i long (omega arith)) in
-    to.places ∙ ap listing_of (sym (append-nil (take listing.len all)) ∙ (rw none at (take-append-drop listing.len all)))
+pub listed_end : (image map : List ℕ) (places : List Listed) (i : ℕ) → length map ≡ 32 → i ≡ 126 → ListedTo image map places i
+    → places ≡ listed_items (kept_from zero zero (states_of map) (entries_of image))
+listed_end image map places i long e to =
+    let none = states_past map i long (omega arith) in
+    sym (append-nil places) ∙ (rw none at to.done)
 
-listing_more : (all rest : List Listed) (listing : Listing) (place : Listed) → listing.len < 126
-    → listing ≡ listing_of (take listing.len all) → drop listing.len all ≡ place ∷ rest
-    → record { len = listing.len + 1; list = set listing.list listing.len place } ≡ listing_of (take (listing.len + 1) all)
-listing_more all rest listing place room places left =
-    let n = listing.len in
-    let front = take n all in
-    let whole : n ≡ length front = ap (λ (l : Listing). l.len) places in
-    let split : take (n + 1) all ≡ front ++ (place ∷ []) = take-add n 1 all ∙ ap (λ (rest : List Listed). front ++ take 1 rest) left in
-    let stored : set listing.list n place ≡ padded (front ++ (place ∷ [])) =
-    ap₂ (λ (l : List Listed) (m : ℕ). set l m place) (ap (λ (l : Listing). l.list) places) whole
-    ∙ padded_more front place (omega arith) in
-    let longer : n + 1 ≡ length (front ++ (place ∷ [])) = rw (length-append front (place ∷ []), ← whole) in
-    rw split (ap₂ (λ (m : ℕ) (l : List Listed). record { len = m; list = l }) longer stored)
-
-module _ (image map : List ℕ) (listing : Listing) (i : ℕ) (long : length map ≡ 32) (inside : i < 126) (to : ListedTo image map listing i) where
+module _ (image map : List ℕ) (places : List Listed) (i : ℕ) (long : length map ≡ 32) (inside : i < 126) (to : ListedTo image map places i) where
   -- nothing is listed at i
   listed_same : (v : Verdict) → verdict_of image map i ≡ v
       → listed_items (kept_from zero i (drop i (states_of map)) (drop i (entries_of image)))
       ≡ listed_items (kept_from zero (i + 1 + steps_over v) (drop (i + 1 + steps_over v) (states_of map)) (drop (i + 1 + steps_over v) (entries_of image)))
-      → ListedTo image map listing (i + 1 + steps_over v)
+      → ListedTo image map places (i + 1 + steps_over v)
   listed_same v e same =
       let within = to.within in
-      record { places = to.places; left = to.left ∙ same; within = omega arith }
+      record { done = ap (λ (left : List Listed). places ++ left) (sym same) ∙ to.done; within = omega arith }
 
   listed_kept : (k : ℕ) → verdict_of image map i ≡ Kept k → (zeroth : Bool) → eqb (namespace_of (entry_at image i)) 0 ≡ zeroth
-      → ListedTo image map (with_listed i (entry_at image i) listing) (i + 1 + k)
+      → ListedTo image map (with_listed i (entry_at image i) places) (i + 1 + k)
   listed_kept k e true plain = rw plain (listed_same (Kept k) e (ap listed_items (rw e at (kept_from_lem image map i long inside)) ∙ rw plain))
   listed_kept k e false named =
-      let all = listed_items (kept_from zero zero (states_of map) (entries_of image)) in
       let place : Listed = record { hash = hash_of_item (entry_at image i); index = i } in
       let rest = listed_items (kept_from zero (i + 1 + k) (drop (i + 1 + k) (states_of map)) (drop (i + 1 + k) (entries_of image))) in
       let within = to.within in
-      let left : drop listing.len all ≡ place ∷ rest = to.left ∙ ap listed_items (rw e at (kept_from_lem image map i long inside)) ∙ rw named in
+      let left : listed_items (kept_from zero i (drop i (states_of map)) (drop i (entries_of image))) ≡ place ∷ rest =
+      ap listed_items (rw e at (kept_from_lem image map i long inside)) ∙ rw named in
       rw named
       record {
-        places = listing_more all rest listing place (omega arith) to.places left;
-        left = sym (drop-drop 1 listing.len all) ∙ ap (drop 1) left;
-        within = omega arith;
+        done = append_assoc places (place ∷ []) rest ∙ ap (λ (back : List Listed). places ++ back) (sym left) ∙ to.done;
+        within = omega (arith, length-append places (place ∷ []));
       }
 
-  pub listed_step : (v : Verdict) → verdict_of image map i ≡ v → ListedTo image map (listed_by v i (entry_at image i) listing) (i + 1 + steps_over v)
+  pub listed_step : (v : Verdict) → verdict_of image map i ≡ v → ListedTo image map (listed_by v i (entry_at image i) places) (i + 1 + steps_over v)
   listed_step NotAnItem e = listed_same NotAnItem e (ap listed_items (rw e at (kept_from_lem image map i long inside)))
   listed_step (RefusedEntry reason) e = listed_same (RefusedEntry reason) e (ap listed_items (rw e at (kept_from_lem image map i long inside)))
   listed_step (RefusedItem reason k) e = listed_same (RefusedItem reason k) e (ap listed_items (rw e at (kept_from_lem image map i long inside)))

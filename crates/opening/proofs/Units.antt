@@ -9,8 +9,10 @@ use borrow.Author.Tests.{le-ltb}
 use Rattle.sector.specs.Layout.{map_of}
 use Rattle.opening_marks.specs.Marks.{changed_units}
 use Rattle.opening_marks.proofs.Passes.{length_changed_le}
-use Rattle.opening_found.specs.declared.HeaderVerdict.{HeaderVerdict}
-use Rattle.opening_found.specs.declared.HeaderVerdict.TheVariants.{Blank, Opens, WrongPageState, WrongVersion, WrongHeaderCrc}
+use Rattle.std.specs.Prelude.{Result, Ok, Err}
+use Rattle.opening_found.specs.declared.Header.{Header}
+use Rattle.opening_found.specs.declared.Header.TheVariants.{Blank, Opens}
+use Rattle.opening_found.specs.declared.HeaderError.{HeaderError}
 use Rattle.opening_found.specs.Found.{header_verdict_of}
 use Rattle.opening.specs.Opening.{opened_map, first_map, opening_plan, plan_for, opening, opening_image, opening_stopped, opening_stopped_image}
 
@@ -25,12 +27,10 @@ length-plan_le image =
       length_changed_le 0 8 (first_map image) (opened_map image),
     )
 
-length-plan_for_le : (verdict : HeaderVerdict) (image : List ℕ) → length (plan_for verdict image) ≤ 16
-length-plan_for_le Blank image = omega arith
-length-plan_for_le Opens image = length-plan_le image
-length-plan_for_le WrongPageState image = omega arith
-length-plan_for_le WrongVersion image = omega arith
-length-plan_for_le WrongHeaderCrc image = omega arith
+length-plan_for_le : (verdict : Result Header HeaderError) (image : List ℕ) → length (plan_for verdict image) ≤ 16
+length-plan_for_le (Ok Blank) image = omega arith
+length-plan_for_le (Ok Opens) image = length-plan_le image
+length-plan_for_le (Err refused) image = omega arith
 
 -- n at or above the most that it can have is the plain call
 pub opening_plain : (image : List ℕ) (n : ℕ) → 16 ≤ n → (opening_stopped image n ≡ opening image) × (opening_stopped_image image n ≡ opening_image image)

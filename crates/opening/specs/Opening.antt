@@ -3,7 +3,7 @@
 -- In order: the list; the new map and its units, in two passes; answer and image; those of a call told to stop.
 -- Not here: the reading (crate opening_reading), which headers open and which items are kept (crate opening_found), and what the passes
 -- do to the states and the units (crate opening_marks).
-use Rattle.std.specs.Prelude.{Bool, true, false, cond, List, [], ◌∷◌, ◌++◌, ℕ, zero, suc, eqb, length, take, drop, get_or}
+use Rattle.std.specs.Prelude.{Bool, true, false, cond, Result, Ok, Err, List, [], ◌∷◌, ◌++◌, ℕ, zero, suc, eqb, length, take, drop, get_or}
 use Rattle.flash.specs.Flash.{Unit4, run}
 use Rattle.page.specs.declared.Listed.{Listed}
 use Rattle.page.specs.declared.Outcome.{Outcome}
@@ -20,8 +20,9 @@ use Rattle.opening_marks.specs.Marks.{first_pass, changed_units}
 use Rattle.opening_reading.specs.declared.Verdict.{Verdict}
 use Rattle.opening_reading.specs.declared.Verdict.TheVariants.{NotAnItem, RefusedEntry, RefusedItem, Kept}
 use Rattle.opening_reading.specs.Reading.{verdict_at, steps_over, Item, item, opened_states}
-use Rattle.opening_found.specs.declared.HeaderVerdict.{HeaderVerdict}
-use Rattle.opening_found.specs.declared.HeaderVerdict.TheVariants.{Blank, Opens, WrongPageState, WrongVersion, WrongHeaderCrc}
+use Rattle.opening_found.specs.declared.Header.{Header}
+use Rattle.opening_found.specs.declared.Header.TheVariants.{Blank, Opens}
+use Rattle.opening_found.specs.declared.HeaderError.{HeaderError}
 use Rattle.opening_found.specs.Found.{header_verdict_of, kept_items}
 
 -- ---- the list
@@ -89,19 +90,15 @@ opened_page image =
       list = padded (listed_items (kept_items image));
     }
 
-abbrev pub answer_for : HeaderVerdict → List ℕ → Outcome
-answer_for Blank image = answered Done uninitialized
-answer_for Opens image = answered Done (opened_page image)
-answer_for WrongPageState image = answered CorruptedData uninitialized
-answer_for WrongVersion image = answered CorruptedData uninitialized
-answer_for WrongHeaderCrc image = answered CorruptedData uninitialized
+abbrev pub answer_for : Result Header HeaderError → List ℕ → Outcome
+answer_for (Ok Blank) image = answered Done uninitialized
+answer_for (Ok Opens) image = answered Done (opened_page image)
+answer_for (Err refused) image = answered CorruptedData uninitialized
 
-abbrev pub plan_for : HeaderVerdict → List ℕ → List Unit4
-plan_for Blank image = []
-plan_for Opens image = opening_plan image
-plan_for WrongPageState image = []
-plan_for WrongVersion image = []
-plan_for WrongHeaderCrc image = []
+abbrev pub plan_for : Result Header HeaderError → List ℕ → List Unit4
+plan_for (Ok Blank) image = []
+plan_for (Ok Opens) image = opening_plan image
+plan_for (Err refused) image = []
 
 -- a refused opening hands back the Uninitialized record
 unfoldable pub opening : List ℕ → Outcome

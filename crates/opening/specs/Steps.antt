@@ -1,6 +1,6 @@
 -- The steps that the code takes: what the verdict at an entry does to the map, and to the list of kept items; what the walk leaves; the
 -- record of a header, a map and a list; what is read off a page before any byte is programmed.
-use Rattle.std.specs.Prelude.{◌≡◌, cond, List, map, ℕ, zero, ◌+◌, eqb, length, set}
+use Rattle.std.specs.Prelude.{◌≡◌, cond, List, [], ◌∷◌, ◌++◌, map, ℕ, zero, ◌+◌, eqb, length}
 use Rattle.page.specs.declared.Listed.{Listed}
 use Rattle.page.specs.Record.{Page, padded}
 use Rattle.sector.specs.declared.EntryMapState.TheVariants.{Written, Erased}
@@ -13,7 +13,6 @@ use Rattle.opening_reading.specs.declared.Verdict.TheVariants.{NotAnItem, Refuse
 use Rattle.opening_reading.specs.Reading.{walk, kept_from}
 use Rattle.opening_marks.specs.Marks.{HasStates}
 use Rattle.opening.specs.declared.Changes.{Changes}
-use Rattle.opening.specs.declared.Listing.{Listing}
 use Rattle.opening.specs.declared.Walked.{Walked}
 use Rattle.opening.specs.Opening.{refused_headers, listed_items, first_map, opened_page}
 
@@ -24,36 +23,27 @@ marked_by (RefusedEntry reason) i map = mark_range Erased i 1 map
 marked_by (RefusedItem reason k) i map = mark_range Erased i (k + 1) map
 marked_by (Kept k) i map = mark_range Written i (k + 1) map
 
--- places in use, as the code holds them
-abbrev pub listing_of : List Listed → Listing
-listing_of places = record { len = length places; list = padded places }
-
 -- one place more, unless in namespace 0
-abbrev pub with_listed : ℕ → List ℕ → Listing → Listing
-with_listed i entry listing =
-    cond (eqb (namespace_of entry) 0)
-    listing
-    (record {
-      len = listing.len + 1;
-      list = set listing.list listing.len (record { hash = hash_of_item entry; index = i });
-    })
+abbrev pub with_listed : ℕ → List ℕ → List Listed → List Listed
+with_listed i entry places =
+    cond (eqb (namespace_of entry) 0) places (places ++ record { hash = hash_of_item entry; index = i } ∷ [])
 
 -- a kept item is listed
-abbrev pub listed_by : Verdict → ℕ → List ℕ → Listing → Listing
-listed_by NotAnItem i entry listing = listing
-listed_by (RefusedEntry reason) i entry listing = listing
-listed_by (RefusedItem reason k) i entry listing = listing
-listed_by (Kept k) i entry listing = with_listed i entry listing
+abbrev pub listed_by : Verdict → ℕ → List ℕ → List Listed → List Listed
+listed_by NotAnItem i entry places = places
+listed_by (RefusedEntry reason) i entry places = places
+listed_by (RefusedItem reason k) i entry places = places
+listed_by (Kept k) i entry places = with_listed i entry places
 
 -- the map with its marks, which entries are headers of refused payload items, the kept items
 pub record WalkLeaves (image map : List ℕ) (left : Walked) : Type 0 where
   pub marks : HasStates map (walk zero Erased (states_of map) (entries_of image)) left.map
   pub heads : left.heads ≡ refused_headers zero (states_of map) (entries_of image)
-  pub listing : left.listing ≡ listing_of (listed_items (kept_from zero zero (states_of map) (entries_of image)))
+  pub listing : left.listing ≡ listed_items (kept_from zero zero (states_of map) (entries_of image))
 
 -- the header's fields, the map with its counts, the list
-unfoldable pub header_record : List ℕ → List ℕ → Listing → Page
-header_record image map listing =
+unfoldable pub header_record : List ℕ → List ℕ → List Listed → Page
+header_record image map places =
     record {
       state = state_of_word (state_word image);
       sequence = sequence_of image;
@@ -62,8 +52,8 @@ header_record image map listing =
       map = map;
       used = count_in Written (states_of map);
       erased = count_in Erased (states_of map);
-      len = listing.len;
-      list = listing.list;
+      len = length places;
+      list = padded places;
     }
 
 -- the map before opening, the one after its first pass, and the record that it hands back

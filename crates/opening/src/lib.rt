@@ -9,23 +9,17 @@ ghost use Rattle.sector.specs.declared.Answer.TheVariants.{Done, Stopped};
 ghost use Rattle.sector.specs.Layout.{sector_size};
 ghost use Rattle.opening.specs.Opening.{opened_page, opening_plan, opening, opening_image, opening_stopped, opening_stopped_image};
 
-use opening_found::HeaderVerdict;
+use listing::Listing;
+use opening_found::Header;
 use page::{Listed, Outcome, ThinPage};
 use sector::{Answer, PageState, SECTOR_SIZE};
 
-mod kept;
+mod listing;
 mod plan;
 mod walk;
 
-// Items outside namespace 0: 126 places, of which len are in use.
-#[derive(Clone, Copy)]
-pub(crate) struct Listing {
-    pub len: u8,
-    pub list: [Listed; 126],
-}
-
 // What the walk leaves: the map with its marks, which entries are headers of refused payload items, the kept items.
-#[derive(Clone, Copy)]
+#[derive(Drop)]
 pub(crate) struct Walked {
     pub map: [u8; 32],
     pub heads: [bool; 126],
@@ -84,14 +78,10 @@ fn opened_page(image: &mut [u8], budget: usize) -> Opened
     ensures opened { (result.page ≡ opened_page image.old) × (result.total ≡ length (opening_plan image.old)) }
     ensures image { image.new ≡ run (take budget (opening_plan image.old)) image.old }
 {
-    let plan = plan::changes(&image[..]);
-    let map = plan.map;
-    let first = plan.first;
-    let page = plan.page;
-    let opened = page.map;
+    let Changes { map, first, page } = plan::changes(image);
     let marked = opening_marks::program_changes(image, map, first, budget);
     let left = flash::remaining(budget, marked);
-    let programmed = opening_marks::program_changes(image, first, opened, left);
+    let programmed = opening_marks::program_changes(image, first, page.map, left);
     Opened {
         page,
         total: marked + programmed,
@@ -125,12 +115,10 @@ pub fn open_stopped(image: &mut [u8], stop: usize) -> Outcome
     if image.len() != SECTOR_SIZE {
         return blank(Answer::BadImage);
     }
-    match opening_found::header_verdict(&image[..]) {
-        HeaderVerdict::Blank => blank(Answer::Done),
-        HeaderVerdict::Opens => open_entries(image, stop),
-        HeaderVerdict::WrongPageState => blank(Answer::CorruptedData),
-        HeaderVerdict::WrongVersion => blank(Answer::CorruptedData),
-        HeaderVerdict::WrongHeaderCrc => blank(Answer::CorruptedData),
+    match opening_found::header_verdict(image) {
+        Ok(Header::Blank) => blank(Answer::Done),
+        Ok(Header::Opens) => open_entries(image, stop),
+        Err(_) => blank(Answer::CorruptedData),
     }
 }
 

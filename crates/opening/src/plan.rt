@@ -3,7 +3,8 @@ ghost use Rattle.std.specs.Prelude.{◌≡◌, length};
 ghost use Rattle.sector.specs.Layout.{sector_size};
 ghost use Rattle.opening.specs.Steps.{header_record, ChangesOf};
 
-use crate::{Changes, Listing, walk};
+use crate::listing::Listing;
+use crate::{Changes, Walked, walk};
 use page::ThinPage;
 use sector::{bytes, layout};
 
@@ -13,21 +14,17 @@ fn header_record(image: &[u8], map: [u8; 32], listing: Listing) -> ThinPage
     ensures { result ≡ header_record image.now map listing }
 {
     let state = sector_header::state_of_word(bytes::number_at(image, 0));
-    let sequence = bytes::number_at(image, 4);
-    let crc = bytes::number_at(image, 28);
     let statistics = sector_map::get_entry_statistics(map);
-    let used = statistics.written as u8;
-    let erased = statistics.erased as u8;
-    let list = listing.list;
+    let Listing { len, list } = listing;
     ThinPage {
         state,
-        sequence,
+        sequence: bytes::number_at(image, 4),
         version: image[8],
-        crc,
+        crc: bytes::number_at(image, 28),
         map,
-        used,
-        erased,
-        len: listing.len,
+        used: statistics.written as u8,
+        erased: statistics.erased as u8,
+        len,
         list,
     }
 }
@@ -38,12 +35,13 @@ pub(crate) fn changes(image: &[u8]) -> Changes
     ensures { ChangesOf image.now result }
 {
     let map = layout::map_of(image);
-    let walked = walk::walk(image, map);
-    let marked = walked.map;
+    let Walked {
+        map: marked,
+        heads,
+        listing,
+    } = walk::walk(image, map);
     let opened = opening_marks::shut_before_tail(image, marked);
-    let heads = walked.heads;
     let first = opening_marks::first_pass(map, opened, heads);
-    let listing = walked.listing;
     let page = header_record(image, opened, listing);
     Changes { map, first, page }
 }

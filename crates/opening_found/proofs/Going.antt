@@ -17,7 +17,7 @@ use Rattle.opening_reading.specs.declared.Walk.{Walk}
 use Rattle.opening_reading.specs.Reading.{Item, item, steps_over}
 use Rattle.opening_reading.specs.Walk.{verdict_of, Tells}
 use Rattle.opening_reading.proofs.Entries.{entries_from, states_past}
-use Rattle.opening_reading.proofs.Steps.{steps_inside, kept_from_lem}
+use Rattle.opening_reading.proofs.Steps.{steps_inside, kept_from_lem, told_verdict}
 use Rattle.opening_found.specs.Found.{KeptItem, items_from, next_of, next_kept, found_from, MeetsEveryItem, GoesOn}
 
 -- ---- the items from an entry on
@@ -74,17 +74,14 @@ module _ (image map : List ℕ) (from : ℕ) (long : length map ≡ 32) (inside 
 -- what a walk over this page told, and where it is then
 module _ {image map : List ℕ} {walk rest : Walk} {index : ℕ} {verdict : Verdict} (long : length map ≡ 32)
     (of_image : walk.image.now ≡ image) (of_map : walk.map ≡ map) (told : Tells walk (index, verdict) rest) where
-  its_verdict : verdict_of image map walk.index ≡ verdict
-  its_verdict = rw (← of_image, ← of_map) (sym told.verdict)
-
   pub tells_kept : (k : ℕ) → verdict ≡ Kept k → (index + k < 126) × (next_kept image map walk.index ≡ Some (kept_item index (k + 1)))
   tells_kept k e =
-      let kept = its_verdict ∙ e in
+      let kept = told_verdict of_image of_map told ∙ e in
       let fits : walk.index + k < 126 = rw kept at (steps_inside image map walk.index long told.inside) in
       rw told.index (fits, next_here image map walk.index long told.inside k kept)
 
   pub tells_passed : Passed verdict → next_kept image map walk.index ≡ next_kept image map rest.index
-  tells_passed passed = rw told.next (next_further image map walk.index long told.inside passed its_verdict)
+  tells_passed passed = rw told.next (next_further image map walk.index long told.inside passed (told_verdict of_image of_map told))
 
 -- ---- going on
 

@@ -17,8 +17,9 @@ use Rattle.sector.specs.declared.EntryMapState.TheVariants.{Empty, Written, Eras
 use Rattle.sector.specs.Layout.{entry_at, entries_of}
 use Rattle.sector.specs.Map.{state_at, states_of}
 use Rattle.sector.proofs.Laws.{length-states_of}
-use Rattle.opening_reading.specs.Reading.{Reason, Kept, covered, header_refusal, payload_refusal, usable, item_verdict, header_verdict, verdict_at, steps_over, mark_of, mark_behind, walk, with_kept, kept_from}
-pub use Rattle.opening_reading.specs.Walk.{verdict_of}
+use Rattle.opening_reading.specs.Reading.{Reason, Verdict, Kept, covered, header_refusal, payload_refusal, usable, item_verdict, header_verdict, verdict_at, steps_over, mark_of, mark_behind, walk, with_kept, kept_from}
+use Rattle.opening_reading.specs.declared.Walk.{Walk}
+use Rattle.opening_reading.specs.Walk.{verdict_of, Tells}
 use Rattle.opening_reading.proofs.Entries.{states_from, entries_from, entries_left}
 use Rattle.opening_reading.proofs.Midway.{walk_zero}
 use Rattle.opening_reading.proofs.Verdicts.{header_fits}
@@ -140,3 +141,15 @@ module _ (image map : List ℕ) (i : ℕ) (long : length map ≡ 32) (inside : i
       ∙ ap (with_kept v i (entry_at image i) entries)
       (kept_skip (steps_over v) (suc i) (drop (i + 1) (states_of map)) entries steps_states steps_entries
       ∙ rw (← add-one i) (after (kept_from zero (i + 1 + steps_over v)) (steps_over v)))
+
+-- ---- what a walk over a page told
+
+module _ {image map : List ℕ} {walk rest : Walk} {index : ℕ} {verdict : Verdict} (of_image : walk.image.now ≡ image) (of_map : walk.map ≡ map)
+    (told : Tells walk (index, verdict) rest) where
+  -- the verdict at the entry that the walk had reached
+  pub told_verdict : verdict_of image map walk.index ≡ verdict
+  told_verdict = rw (← of_image, ← of_map) (sym told.verdict)
+
+  -- what it steps over lies on the page
+  pub told_inside : length map ≡ 32 → walk.index + steps_over verdict < 126
+  told_inside long = rw told_verdict at (steps_inside image map walk.index long told.inside)

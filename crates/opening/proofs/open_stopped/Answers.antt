@@ -1,5 +1,5 @@
 -- `open_stopped` meets its contract: the length is tested first, then each verdict on the header answers as `answer_for` and programs as `plan_for`.
-use mathlib.Core.Path.{◌≡◌, refl, sym, ◌∙◌}
+use mathlib.Core.Path.{◌≡◌, refl, sym, ap, ◌∙◌}
 use mathlib.Core.List.{List, []}
 use borrow.Author.Tests.{eq-eqb, ne_eqb, le-ltb}
 use native.Mathlib.Omega.{arith}
@@ -15,7 +15,9 @@ use Rattle.page.specs.Writing.{answered, stops}
 use Rattle.sector.specs.declared.Answer.TheVariants.{Stopped}
 use Rattle.sector.specs.Layout.{sector_size}
 use Rattle.opening_found.specs.Found.{header_verdict_of}
-use Rattle.opening_found.specs.declared.HeaderVerdict.{HeaderVerdict}
+use Rattle.std.specs.Prelude.{Result, Ok}
+use Rattle.opening_found.specs.declared.Header.{Header}
+use Rattle.opening_found.specs.declared.HeaderError.{HeaderError}
 use Rattle.opening.specs.Opening.{answer_for, plan_for, opening_stopped, opening_stopped_image}
 use Rattle.opening.proofs.open_stopped.Goals as goal
 
@@ -24,7 +26,7 @@ no_stop : (n : ℕ) → ltb n 0 ≡ false
 no_stop n = le-ltb n 0 (omega arith)
 
 -- past the length's test the header's verdict decides
-decided : (image : List ℕ) (n : ℕ) (verdict : HeaderVerdict) → length image ≡ sector_size → header_verdict_of image ≡ verdict
+decided : (image : List ℕ) (n : ℕ) (verdict : Result Header HeaderError) → length image ≡ sector_size → header_verdict_of image ≡ verdict
     → (opening_stopped image n ≡ cond (stops n (plan_for verdict image)) (answered Stopped uninitialized) (answer_for verdict image))
     × (opening_stopped_image image n ≡ run (take n (plan_for verdict image)) image)
 unfolding opening_stopped opening_stopped_image
@@ -33,7 +35,7 @@ decided image n verdict long e =
     rw (whole, e) (refl, refl)
 
 -- where the verdict programs nothing, the answer is all
-answered_only : {outcome : Outcome} (image : List ℕ) (n : ℕ) (verdict : HeaderVerdict) → length image ≡ sector_size
+answered_only : {outcome : Outcome} (image : List ℕ) (n : ℕ) (verdict : Result Header HeaderError) → length image ≡ sector_size
     → header_verdict_of image ≡ verdict → plan_for verdict image ≡ [] → outcome ≡ answer_for verdict image
     → (outcome ≡ opening_stopped image n) × (image ≡ opening_stopped_image image n)
 unfolding run
@@ -47,27 +49,19 @@ returns-then-image-ne-SECTOR_SIZE c =
     let other = ne_eqb (length c.args.image.now) 4096 c.if-image-ne-SECTOR_SIZE.true in
     record { answer = rw other c.blank.ensures; image = rw other }
 
-pub returns-in-Blank : goal.returns-in-Blank
-returns-in-Blank c =
-    let both = answered_only c.args.image.now c.args.stop _ c.if-image-ne-SECTOR_SIZE.false (sym c.header_verdict.ensures ∙ c.in-Blank.is) refl c.blank-in-Blank.ensures in
+pub returns-in-Ok-Blank : goal.returns-in-Ok-Blank
+returns-in-Ok-Blank c =
+    let blank = sym c.header_verdict.ensures ∙ c.in-Ok-Blank.is ∙ ap Ok c.in-Ok-Blank.field-0-is in
+    let both = answered_only c.args.image.now c.args.stop _ c.if-image-ne-SECTOR_SIZE.false blank refl c.blank-in-Ok-Blank.ensures in
     record { answer = both.0; image = both.1 }
 
-pub returns-in-WrongPageState : goal.returns-in-WrongPageState
-returns-in-WrongPageState c =
-    let both = answered_only c.args.image.now c.args.stop _ c.if-image-ne-SECTOR_SIZE.false (sym c.header_verdict.ensures ∙ c.in-WrongPageState.is) refl c.blank-in-WrongPageState.ensures in
+pub returns-in-Err : goal.returns-in-Err
+returns-in-Err c =
+    let both = answered_only c.args.image.now c.args.stop _ c.if-image-ne-SECTOR_SIZE.false (sym c.header_verdict.ensures ∙ c.in-Err.is) refl c.blank-in-Err.ensures in
     record { answer = both.0; image = both.1 }
 
-pub returns-in-WrongVersion : goal.returns-in-WrongVersion
-returns-in-WrongVersion c =
-    let both = answered_only c.args.image.now c.args.stop _ c.if-image-ne-SECTOR_SIZE.false (sym c.header_verdict.ensures ∙ c.in-WrongVersion.is) refl c.blank-in-WrongVersion.ensures in
-    record { answer = both.0; image = both.1 }
-
-pub returns-in-WrongHeaderCrc : goal.returns-in-WrongHeaderCrc
-returns-in-WrongHeaderCrc c =
-    let both = answered_only c.args.image.now c.args.stop _ c.if-image-ne-SECTOR_SIZE.false (sym c.header_verdict.ensures ∙ c.in-WrongHeaderCrc.is) refl c.blank-in-WrongHeaderCrc.ensures in
-    record { answer = both.0; image = both.1 }
-
-pub returns-in-Opens : goal.returns-in-Opens
-returns-in-Opens c =
-    let result = decided c.args.image.now c.args.stop _ c.if-image-ne-SECTOR_SIZE.false (sym c.header_verdict.ensures ∙ c.in-Opens.is) in
+pub returns-in-Ok-Opens : goal.returns-in-Ok-Opens
+returns-in-Ok-Opens c =
+    let opens = sym c.header_verdict.ensures ∙ c.in-Ok-Opens.is ∙ ap Ok c.in-Ok-Opens.field-0-is in
+    let result = decided c.args.image.now c.args.stop _ c.if-image-ne-SECTOR_SIZE.false opens in
     record { answer = c.open_entries.ensures.answer ∙ sym result.0; image = c.open_entries.ensures.image ∙ sym result.1 }
