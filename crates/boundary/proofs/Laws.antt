@@ -51,27 +51,27 @@ item_given {answer} {item} {found} e none given =
 
 -- with a refusal the definitions' values are what stands for none
 
+abbrev WidthLeft : WidthAnswer → Type 0
+WidthLeft found = value_in 0 (value_where_done found.answer found.width) ≡ found.width
+
 pub width_none : (byte : ℕ) → value_in 0 (value_where_done (primitive_width byte).answer (primitive_width byte).width) ≡ (primitive_width byte).width
 unfolding primitive_width
 width_none byte = go (eqb (width_of (item_type byte)) 0)
   where
-    Of : WidthAnswer → Type 0
-    Of found = value_in 0 (value_where_done found.answer found.width) ≡ found.width
-
     go : (refused : Bool)
-        → Of (cond refused (record { answer = Err (ItemTypeMismatch (type_byte byte)); width = 0 }) (record { answer = Done; width = width_of (item_type byte) }))
+        → WidthLeft (cond refused (record { answer = Err (ItemTypeMismatch (type_byte byte)); width = 0 }) (record { answer = Done; width = width_of (item_type byte) }))
     go true = refl
     go false = refl
+
+abbrev StateLeft : StateAnswer → Type 0
+StateLeft found = value_in 0 (value_where_done found.answer (bits_of found.state)) ≡ bits_of found.state
 
 pub state_none : (map : List ℕ) (i : ℕ)
     → value_in 0 (value_where_done (entry_state map i).answer (bits_of (entry_state map i).state)) ≡ bits_of (entry_state map i).state
 unfolding entry_state
 state_none map i = go (ltb i entries_per_page)
   where
-    Of : StateAnswer → Type 0
-    Of found = value_in 0 (value_where_done found.answer (bits_of found.state)) ≡ bits_of found.state
-
-    go : (inside : Bool) → Of (cond inside (record { answer = Done; state = state_at map i }) (record { answer = Err CorruptedData; state = Erased }))
+    go : (inside : Bool) → StateLeft (cond inside (record { answer = Done; state = state_at map i }) (record { answer = Err CorruptedData; state = Erased }))
     go true = refl
     go false = refl
 
@@ -80,27 +80,27 @@ none_refused : {A : Type 0} (none : A) (answer : Answer) → value_in none (valu
 none_refused none (Ok done) = refl
 none_refused none (Err refused) = refl
 
+abbrev ItemLeft : Loaded → Type 0
+ItemLeft found = value_in zero_item (value_where_done found.answer found.item) ≡ found.item
+
 pub loaded_none : (checks : List Check) (item : List ℕ)
     → value_in zero_item (value_where_done (loaded_or checks item).answer (loaded_or checks item).item) ≡ (loaded_or checks item).item
 loaded_none checks item = go (accepted checks)
   where
-    Of : Loaded → Type 0
-    Of found = value_in zero_item (value_where_done found.answer found.item) ≡ found.item
-
-    go : (accepts : Bool) → Of (cond accepts (record { answer = Done; item = item }) (refused_item (refusal checks)))
+    go : (accepts : Bool) → ItemLeft (cond accepts (record { answer = Done; item = item }) (refused_item (refusal checks)))
     go true = refl
     go false = none_refused zero_item (refusal checks)
+
+abbrev SizeLeft : DataLoaded → Type 0
+SizeLeft found = value_in 0 (value_where_done found.answer found.size) ≡ found.size
 
 pub size_none : (image : List ℕ) (i room : ℕ)
     → value_in 0 (value_where_done (data_answer image i room).answer (data_answer image i room).size) ≡ (data_answer image i room).size
 unfolding data_answer
 size_none image i room = go (accepted (data_checks image i room))
   where
-    Of : DataLoaded → Type 0
-    Of found = value_in 0 (value_where_done found.answer found.size) ≡ found.size
-
     go : (accepts : Bool)
-        → Of (cond accepts (record { answer = Done; size = size_of (entry_at image i) }) (record { answer = refusal (data_checks image i room); size = 0 }))
+        → SizeLeft (cond accepts (record { answer = Done; size = size_of (entry_at image i) }) (record { answer = refusal (data_checks image i room); size = 0 }))
     go true = refl
     go false = none_refused 0 (refusal (data_checks image i room))
 

@@ -1,3 +1,4 @@
 pub mod Progress
 pub mod Unique
 pub mod Units
+pub mod Laws

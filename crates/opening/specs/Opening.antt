@@ -6,10 +6,9 @@
 use Rattle.std.specs.Prelude.{Bool, true, false, cond, Result, Ok, Err, List, [], ◌∷◌, ◌++◌, ℕ, zero, suc, eqb, length, take, drop, get_or}
 use Rattle.flash.specs.Flash.{Unit4, run}
 use Rattle.page.specs.declared.Listed.{Listed}
-use Rattle.page.specs.declared.Outcome.{Outcome}
 use Rattle.page.specs.Record.{Page, padded, uninitialized}
-use Rattle.page.specs.Writing.{answered, stops}
-use Rattle.sector.specs.declared.Answer.TheVariants.{Done, BadImage, CorruptedData, Stopped}
+use Rattle.page.specs.Writing.{Outcome, answered, stops}
+use Rattle.sector.specs.declared.Refusal.TheVariants.{BadImage, CorruptedData, Stopped}
 use Rattle.sector.specs.declared.EntryMapState.{EntryMapState}
 use Rattle.sector.specs.declared.EntryMapState.TheVariants.{Written, Erased}
 use Rattle.sector.specs.Header.{state_of_word}
@@ -24,6 +23,7 @@ use Rattle.opening_found.specs.declared.Header.{Header}
 use Rattle.opening_found.specs.declared.Header.TheVariants.{Blank, Opens}
 use Rattle.opening_found.specs.declared.HeaderError.{HeaderError}
 use Rattle.opening_found.specs.Found.{header_verdict_of, kept_items}
+use Rattle.sector.specs.Answers.{Done}
 
 -- ---- the list
 
@@ -93,7 +93,7 @@ opened_page image =
 abbrev pub answer_for : Result Header HeaderError → List ℕ → Outcome
 answer_for (Ok Blank) image = answered Done uninitialized
 answer_for (Ok Opens) image = answered Done (opened_page image)
-answer_for (Err refused) image = answered CorruptedData uninitialized
+answer_for (Err refused) image = answered (Err CorruptedData) uninitialized
 
 abbrev pub plan_for : Result Header HeaderError → List ℕ → List Unit4
 plan_for (Ok Blank) image = []
@@ -103,7 +103,7 @@ plan_for (Err refused) image = []
 -- a refused opening hands back the Uninitialized record
 unfoldable pub opening : List ℕ → Outcome
 opening image =
-    cond (eqb (length image) sector_size) (answer_for (header_verdict_of image) image) (answered BadImage uninitialized)
+    cond (eqb (length image) sector_size) (answer_for (header_verdict_of image) image) (answered (Err BadImage) uninitialized)
 
 -- and changes nothing
 unfoldable pub opening_image : List ℕ → List ℕ
@@ -116,8 +116,8 @@ opening_image image =
 unfoldable pub opening_stopped : List ℕ → ℕ → Outcome
 opening_stopped image n =
     cond (eqb (length image) sector_size)
-    (cond (stops n (plan_for (header_verdict_of image) image)) (answered Stopped uninitialized) (answer_for (header_verdict_of image) image))
-    (answered BadImage uninitialized)
+    (cond (stops n (plan_for (header_verdict_of image) image)) (answered (Err Stopped) uninitialized) (answer_for (header_verdict_of image) image))
+    (answered (Err BadImage) uninitialized)
 
 -- and the first n units programmed
 unfoldable pub opening_stopped_image : List ℕ → ℕ → List ℕ

@@ -31,7 +31,7 @@ impl Listing {
     {
         Listing {
             len: 0,
-            list: [Listed { hash: 0, index: 0 }; 126],
+            list: [Listed::none(); 126],
         }
     }
 

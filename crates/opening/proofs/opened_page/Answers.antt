@@ -27,9 +27,9 @@ both c =
     run_both budget (changed_units 0 8 (map_of image) (first_map image)) (changed_units 0 8 (first_map image) (opened_map image)) image
     (marked.total ∙ ap length marks)
     (programmed.total ∙ ap length rest)
-    c.remaining-left.ensures
+    c.saturating_sub-left.ensures
     (marked.image ∙ ap (λ (plan : List Unit4). run (take budget plan) image) marks)
-    (programmed.image ∙ ap (λ (plan : List Unit4). run (take c.remaining-left.result plan) c.program_changes-marked.new.image) rest)
+    (programmed.image ∙ ap (λ (plan : List Unit4). run (take c.saturating_sub-left.result plan) c.program_changes-marked.new.image) rest)
 
 pub overflow_add-result : goal.overflow_add-result
 overflow_add-result c =
