@@ -4,7 +4,7 @@
 ghost use Rattle.std.specs.Prelude.{◌≡◌, ◌+◌, ◌*◌, ◌<◌, ◌≤◌, length, replicate};
 ghost use Rattle.flash.specs.Flash.{units, run};
 ghost use Rattle.sector.specs.Layout.{sector_size, entries_per_page, entry_size, entry_address};
-ghost use Rattle.call_purge.specs.Purge.{held_span, purge, purge_image};
+ghost use Rattle.call_purge.specs.Purge.{purge, purge_image};
 
 use sector::{ENTRIES_PER_PAGE, Refusal, SECTOR_SIZE, layout};
 
@@ -30,14 +30,6 @@ fn zero_entries(image: &mut [u8], index: usize, span: usize)
     }
 }
 
-// A span held between 1 and what the page has from an index on.
-fn held_span(index: usize, span: usize) -> usize
-    requires { index < entries_per_page }
-    ensures { result ≡ held_span index span }
-{
-    span.clamp(1, ENTRIES_PER_PAGE - index)
-}
-
 // Zeroes entries from an index on (`ThinPage::purge_entries`), at least one and none past the page; an index over 125 does
 // nothing. The map stays as it is, so no record is taken.
 //
@@ -52,6 +44,7 @@ pub fn purge_entries(image: &mut [u8], index: usize, span: usize) -> Result<(), 
     if index >= ENTRIES_PER_PAGE {
         return Ok(());
     }
-    zero_entries(image, index, held_span(index, span));
+    let held = span.clamp(1, ENTRIES_PER_PAGE - index);
+    zero_entries(image, index, held);
     Ok(())
 }

@@ -24,7 +24,7 @@ returns-then-index-ge-ENTRIES_PER_PAGE c =
 pub returns : goal.returns
 unfolding purge purge_image purge_plan
 returns c =
-    rw (eq-eqb _ _ c.if-image-ne-SECTOR_SIZE.false, lt-ltb _ 126 c.if-index-ge-ENTRIES_PER_PAGE.false, ← c.held_span.ensures) record {
+    rw (eq-eqb _ _ c.if-image-ne-SECTOR_SIZE.false, lt-ltb _ 126 c.if-index-ge-ENTRIES_PER_PAGE.false, ← c.clamp-held.ensures) record {
       answer = refl;
       image = c.zero_entries.ensures;
     }
