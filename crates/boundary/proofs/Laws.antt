@@ -7,7 +7,8 @@ use Prim.Native.Nat.{ℕ}
 use lib.Dec.{eqb, ltb}
 use lib.ListN.{length}
 use borrow.Author.Tests.{eq-eqb, ne_eqb}
-use Rattle.std.specs.Prelude.{Result, Ok, Err}
+use Rattle.std.specs.Prelude.{Result, Ok, Err, IsOkAnd, MatchResult}
+use Rattle.sector.specs.declared.EntryMapState.{EntryMapState}
 use Rattle.sector.specs.declared.EntryMapState.TheVariants.{Erased}
 use Rattle.sector.specs.declared.Refusal.{Refusal}
 use Rattle.sector.specs.declared.Refusal.TheVariants.{ItemTypeMismatch, CorruptedData, Stopped}
@@ -31,20 +32,20 @@ right_size size bytes h = ap not (eq-eqb (length bytes) size h)
 
 -- ---- what is given of a call's result, by the answer and the value that it carries
 
-pub number_given : {answer : Answer} {value : ℕ} {found : Result ℕ Refusal} {number : ℕ} {buffer : List ℕ}
+pub number_given : (answer : Answer) (value : ℕ) {found : Result ℕ Refusal} {number : ℕ} {buffer : List ℕ}
     → found ≡ value_where_done answer value → value_in 0 (value_where_done answer value) ≡ value
     → (number ≡ number_of (answer_in found)) × (buffer ≡ answer_bytes (carried_byte (answer_in found)) (value_in 0 found) zero_item no_counts)
     → (number ≡ number_of answer) × (buffer ≡ answer_bytes (carried_byte answer) value zero_item no_counts)
-number_given {answer} {value} {found} e none given =
+number_given answer value {found} e none given =
     let answered_as : answer_in found ≡ answer = ap answer_in e ∙ answer_given answer value in
     let valued : value_in 0 found ≡ value = ap (value_in 0) e ∙ none in
     (given.0 ∙ ap number_of answered_as, given.1 ∙ rw (answered_as, valued) refl)
 
-pub item_given : {answer : Answer} {item : List ℕ} {found : Result (List ℕ) Refusal} {number : ℕ} {buffer : List ℕ}
+pub item_given : (answer : Answer) (item : List ℕ) {found : Result (List ℕ) Refusal} {number : ℕ} {buffer : List ℕ}
     → found ≡ value_where_done answer item → value_in zero_item (value_where_done answer item) ≡ item
     → (number ≡ number_of (answer_in found)) × (buffer ≡ answer_bytes (carried_byte (answer_in found)) 0 (value_in zero_item found) no_counts)
     → (number ≡ number_of answer) × (buffer ≡ answer_bytes (carried_byte answer) 0 item no_counts)
-item_given {answer} {item} {found} e none given =
+item_given answer item {found} e none given =
     let answered_as : answer_in found ≡ answer = ap answer_in e ∙ answer_given answer item in
     let valued : value_in zero_item found ≡ item = ap (value_in zero_item) e ∙ none in
     (given.0 ∙ ap number_of answered_as, given.1 ∙ rw (answered_as, valued) refl)
@@ -74,6 +75,20 @@ state_none map i = go (ltb i entries_per_page)
     go : (inside : Bool) → StateLeft (cond inside (record { answer = Done; state = state_at map i }) (record { answer = Err CorruptedData; state = Erased }))
     go true = refl
     go false = refl
+
+-- the two bits of the state that is found
+pub bits_given : (answer : Answer) (state : EntryMapState) (found : Result EntryMapState Refusal) (bits : Result ℕ Refusal)
+    → found ≡ value_where_done answer state
+    → MatchResult found (λ s. IsOkAnd bits (λ n. n ≡ bits_of s)) (λ refused. bits ≡ Err refused)
+    → bits ≡ value_where_done answer (bits_of state)
+bits_given answer state found bits e cases = go answer bits (rw e at cases)
+  where
+    go : (answer : Answer) (bits : Result ℕ Refusal)
+        → MatchResult (value_where_done answer state) (λ s. IsOkAnd bits (λ n. n ≡ bits_of s)) (λ refused. bits ≡ Err refused)
+        → bits ≡ value_where_done answer (bits_of state)
+    go (Ok done) (Ok n) h = ap Ok h
+    go (Ok done) (Err refused) h = absurd h
+    go (Err refused) bits h = h
 
 -- of a refusal with no value
 none_refused : {A : Type 0} (none : A) (answer : Answer) → value_in none (value_where_done answer none) ≡ none
@@ -127,12 +142,12 @@ same_record checks stopped page = go (accepted checks) stopped
     go false stopped = refl
 
 -- opening, and what is handed back of it
-pub opened_as : (after : List ℕ) {defined : Outcome} {opened : Result Page Refusal} {exit last : List ℕ} {number : ℕ}
+pub opened_as : (after : List ℕ) (defined : Outcome) {opened : Result Page Refusal} {exit last : List ℕ} {number : ℕ}
     → opened ≡ value_where_done defined.answer defined.page → value_in uninitialized (value_where_done defined.answer defined.page) ≡ defined.page
     → exit ≡ after
     → (number ≡ number_of (answer_in opened)) × (last ≡ record_bytes (value_in uninitialized opened))
     → (number ≡ number_of defined.answer) × ((exit ≡ after) × (last ≡ record_bytes defined.page))
-opened_as after {defined} {opened} e none ends handed =
+opened_as after defined {opened} e none ends handed =
     let answered_as : answer_in opened ≡ defined.answer = ap answer_in e ∙ answer_given defined.answer defined.page in
     let valued : value_in uninitialized opened ≡ defined.page = ap (value_in uninitialized) e ∙ none in
     (handed.0 ∙ ap number_of answered_as, (ends, handed.1 ∙ ap record_bytes valued))

@@ -21,5 +21,5 @@ unfolding load_given load_item
 returns c =
     let z = c.args in
     rw (right_size 57 _ c.if-buffer-ne-ANSWER_SIZE.false)
-    (let both = item_given c.load_item-loaded.ensures (loaded_none (load_checks z.image.now z.index) (entry_at z.image.now z.index)) (c.give_item.ensures.number, c.give_item.ensures.buffer) in
+    (let both = item_given _ _ c.load_item-loaded.ensures (loaded_none (load_checks z.image.now z.index) (entry_at z.image.now z.index)) (c.give_item.ensures.number, c.give_item.ensures.buffer) in
     record { number = both.0; buffer = both.1 })

@@ -21,5 +21,5 @@ unfolding raw_given raw_entry
 returns c =
     let z = c.args in
     rw (right_size 57 _ c.if-buffer-ne-ANSWER_SIZE.false)
-    (let both = item_given c.read_raw_entry-loaded.ensures (loaded_none (entry_checks z.image.now z.index) (entry_at z.image.now z.index)) (c.give_item.ensures.number, c.give_item.ensures.buffer) in
+    (let both = item_given _ _ c.read_raw_entry-loaded.ensures (loaded_none (entry_checks z.image.now z.index) (entry_at z.image.now z.index)) (c.give_item.ensures.number, c.give_item.ensures.buffer) in
     record { number = both.0; buffer = both.1 })

@@ -1,9 +1,9 @@
 -- `nvs_width` meets its contract: a wrong size changes nothing, else the call's answer is laid out.
-use mathlib.Core.Path.{refl}
+use mathlib.Core.Path.{◌≡◌, refl, ◌∙◌}
 use borrow.Author.Rules.{rules}
 use Rattle.boundary_encoding.specs.Encoding.{zero_item}
 use Rattle.boundary.specs.Boundary.{width_given}
-use Rattle.boundary.proofs.Laws.{wrong_size_lem, right_size, given_of}
+use Rattle.boundary.proofs.Laws.{wrong_size_lem, right_size, number_given, width_none}
 use Rattle.sector.specs.Types.{WidthAnswer}
 use Rattle.boundary.proofs.reading.nvs_width.Goals as goal
 
@@ -18,6 +18,7 @@ returns-then-buffer-ne-ANSWER_SIZE c =
 pub returns : goal.returns
 unfolding width_given
 returns c =
+    let same : c.map.result ≡ c.get_primitive_bytes_width-width.result = search rules in
     rw (right_size 57 _ c.if-buffer-ne-ANSWER_SIZE.false)
-    (let both = given_of (λ (w : WidthAnswer). w.answer) (λ w. w.width) (λ w. zero_item) c.get_primitive_bytes_width-found.ensures (c.give.ensures.number, c.give.ensures.buffer) in
+    (let both = number_given _ _ (same ∙ c.get_primitive_bytes_width-width.ensures) (width_none c.args.byte) (c.give_number.ensures.number, c.give_number.ensures.buffer) in
     record { number = both.0; buffer = both.1 })

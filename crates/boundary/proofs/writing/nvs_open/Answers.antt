@@ -19,5 +19,5 @@ pub returns : goal.returns
 unfolding open_left
 returns c =
     rw (right_size 675 _ c.if-buffer-ne-RECORD_SIZE.false)
-    (let both = opened_as _ c.open_page-opened.ensures.opened (opening_none c.args.image.now) c.open_page-opened.ensures.image (c.hand_opened.ensures.number, c.hand_opened.ensures.buffer) in
+    (let both = opened_as _ _ c.open_page-opened.ensures.opened (opening_none c.args.image.now) c.open_page-opened.ensures.image (c.hand_opened.ensures.number, c.hand_opened.ensures.buffer) in
     record { number = both.0; image = both.1.0; buffer = both.1.1 })

@@ -1,9 +1,9 @@
 -- `nvs_purge_namespace` meets its contract: a wrong size changes nothing, else the call's answer is handed back with its record.
 use mathlib.Core.Path.{refl}
 use borrow.Author.Rules.{rules}
-use Rattle.call_purge_namespace.specs.PurgeNamespace.{purge_namespace, purge_namespace_image}
+use Rattle.call_purge_namespace.specs.PurgeNamespace.{purge_namespace_checks, purge_namespace, purge_namespace_image}
 use Rattle.boundary.specs.Boundary.{purge_namespace_left}
-use Rattle.boundary.proofs.Laws.{wrong_size_lem, right_size, called_over}
+use Rattle.boundary.proofs.Laws.{wrong_size_lem, right_size, called_over, same_record}
 use Rattle.boundary.proofs.writing.nvs_purge_namespace.Goals as goal
 
 pub returns-then-buffer-ne-RECORD_SIZE : goal.returns-then-buffer-ne-RECORD_SIZE
@@ -16,7 +16,7 @@ returns-then-buffer-ne-RECORD_SIZE c =
     })
 
 pub returns : goal.returns
-unfolding purge_namespace_left
+unfolding purge_namespace_left purge_namespace
 returns c =
     let z = c.args in
     rw (right_size 675 _ c.if-buffer-ne-RECORD_SIZE.false)
