@@ -1,19 +1,27 @@
 -- Appends (01, 'Append single', 'Append variable'): checks in order, plan, new record.
 --
--- In order: which types a call takes; append single; the namespace append; append variable.
-use Rattle.std.specs.Prelude.{Bool, true, false, ◌&&◌, ◌||◌, not, List, [], ◌∷◌, ◌++◌, ℕ, ◌+◌, ◌/◌, eqb, ltb, length, take, replicate}
+-- In order: what an append has to find; append single; the namespace append; append variable.
+use Rattle.std.specs.Prelude.{◌≡◌, Bool, true, false, ◌&&◌, ◌||◌, not, List, [], ◌∷◌, ◌++◌, ℕ, ◌+◌, ◌/◌, ◌≤◌, eqb, ltb, length, take, replicate}
 use Rattle.flash.specs.Flash.{Unit4, units}
-use Rattle.page.specs.Record.{Page, next_free, with_item}
+use Rattle.page.specs.Record.{Page, next_free, fit_to_use, with_item}
 use Rattle.page.specs.Writing.{Outcome, bad_image, bad_record, not_active, over_free, outcome, image_after, stops, item_plan}
 use Rattle.sector.specs.declared.Refusal.TheVariants.{BadRequest, ValueTooLong}
 use Rattle.sector.specs.declared.ItemType.{ItemType}
 use Rattle.sector.specs.declared.ItemType.TheVariants.{U8, I8, U16, I16, U32, I32, U64, I64, Sized, Blob, BlobData, BlobIndex, Any}
 use Rattle.sector.specs.Answers.{Check}
 use Rattle.sector.specs.Item.{item_bytes, hash_of, sized_data}
-use Rattle.sector.specs.Layout.{entries_per_page, entry_address}
+use Rattle.sector.specs.Layout.{sector_size, entries_per_page, entry_address}
 use Rattle.sector.specs.Types.{byte_of, item_type, has_payload}
 use Rattle.call_append.specs.declared.Single.{Single}
 use Rattle.call_append.specs.declared.Variable.{Variable}
+
+-- ---- what an append has to find
+
+-- an image and a record that take an item of so many entries
+pub record Room (image : List ℕ) (page : Page) (span : ℕ) : Type 0 where
+  pub whole : length image ≡ sector_size
+  pub fit : fit_to_use page ≡ true
+  pub room : next_free page + span ≤ entries_per_page
 
 -- ---- append single
 

@@ -2,13 +2,13 @@
 // definitions are here.
 #![tactic(auto)]
 
-ghost use Rattle.std.specs.Prelude.{◌≡◌, ◌+◌, ◌≤◌, length, take};
+ghost use Rattle.std.specs.Prelude.{OnOk, ◌≡◌, ◌+◌, ◌≤◌, length, take};
 ghost use Rattle.flash.specs.Flash.{run};
 ghost use Rattle.page.specs.Record.{next_free};
 ghost use Rattle.sector.specs.Answers.{refusal};
 ghost use Rattle.sector.specs.Map.{mark_range};
 ghost use Rattle.sector.specs.declared.EntryMapState.TheVariants.{Written};
-ghost use Rattle.call_append.specs.Append.{is_single, single_request, single_checks, single_plan, append_single, append_single_image, namespace_item};
+ghost use Rattle.call_append.specs.Append.{Room, is_single, single_request, single_checks, single_plan, append_single, append_single_image, namespace_item};
 
 use page::ThinPage;
 use sector::{ItemType, Refusal};
@@ -64,7 +64,8 @@ fn is_bad_single(item: Single) -> bool
 
 // Whether the page takes this single entry, in document 01's order.
 fn single_refusal(image: &[u8], page: &ThinPage, item: Single) -> Result<(), Refusal>
-    ensures { result ≡ refusal (single_checks image.now page.now item) }
+    ensures answer { result ≡ refusal (single_checks image.now page.now item) }
+    ensures room { OnOk result (Room image.now page.now 1) }
 {
     page_write::append_refusal(image, page)?;
     if is_bad_single(item) {
@@ -77,6 +78,7 @@ fn single_refusal(image: &[u8], page: &ThinPage, item: Single) -> Result<(), Ref
 }
 
 // Programs the single entry, its mark out of the new record's map, and the state word, and returns the units of all.
+#[tactic(auto, unfolding(crate::specs::Append::single_plan, page::specs::Writing::item_plan))]
 fn write_single(
     image: &mut [u8],
     page: &ThinPage,
@@ -105,6 +107,7 @@ fn write_single(
 // Refuses, in this order: BadImage, BadRecord, WrongState unless Active, BadRequest unless the type is a primitive or
 // BlobIndex and the span is 1, PageFull. The Rust checks the last alone: it takes other types, and at span 0 it writes
 // past a full page.
+#[tactic(auto, unfolding(page::specs::Record::with_item))]
 pub fn write_item(
     image: &mut [u8],
     page: &mut ThinPage,

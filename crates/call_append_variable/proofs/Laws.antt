@@ -13,9 +13,8 @@ use Rattle.page.proofs.Checks.{accepted_room, accepted_usable}
 use Rattle.sector.specs.declared.Refusal.TheVariants.{BadRequest, ValueTooLong}
 use Rattle.sector.specs.Answers.{accepted}
 use Rattle.sector.specs.Layout.{entries_per_page}
-use Rattle.call_append.proofs.Laws.{Room}
 use Rattle.call_append.specs.declared.Variable.{Variable}
-use Rattle.call_append.specs.Append.{span_for, variable_request, variable_checks}
+use Rattle.call_append.specs.Append.{Room, span_for, variable_request, variable_checks}
 
 pub variable_room : (image : List ℕ) (page : Page) (item : Variable) (payload : List ℕ)
     → accepted (variable_checks image page item payload) ≡ true → Room image page (span_for (length payload))

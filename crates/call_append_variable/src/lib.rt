@@ -1,14 +1,14 @@
 // Appending data of any length (page.rs): its header entry, and the data after it.
 #![tactic(auto)]
 
-ghost use Rattle.std.specs.Prelude.{◌≡◌, ◌++◌, ◌+◌, ◌≤◌, length, take};
+ghost use Rattle.std.specs.Prelude.{OnOk, ◌≡◌, ◌++◌, ◌+◌, ◌≤◌, length, take};
 ghost use Rattle.flash.specs.Flash.{units, run};
 ghost use Rattle.page.specs.Record.{next_free};
 ghost use Rattle.sector.specs.Answers.{refusal};
 ghost use Rattle.sector.specs.Layout.{entry_address};
 ghost use Rattle.sector.specs.Map.{mark_range};
 ghost use Rattle.sector.specs.declared.EntryMapState.TheVariants.{Written};
-ghost use Rattle.call_append.specs.Append.{span_for, variable_request, variable_checks, variable_header, variable_plan, append_variable, append_variable_image};
+ghost use Rattle.call_append.specs.Append.{Room, span_for, variable_request, variable_checks, variable_header, variable_plan, append_variable, append_variable_image};
 
 use call_append::Variable;
 use page::ThinPage;
@@ -39,7 +39,8 @@ fn variable_refusal(
     item: Variable,
     payload: &[u8],
 ) -> Result<(), Refusal>
-    ensures { result ≡ refusal (variable_checks image.now page.now item payload.now) }
+    ensures answer { result ≡ refusal (variable_checks image.now page.now item payload.now) }
+    ensures room { OnOk result (Room image.now page.now (span_for (length payload.now))) }
 {
     page_write::append_refusal(image, page)?;
     if is_bad_variable(item) {
@@ -116,6 +117,7 @@ fn write_variable(
 // Refuses, in this order: BadImage, BadRecord, WrongState unless Active, BadRequest unless the type is Sized, Blob or
 // BlobData and the namespace is not 0, ValueTooLong over 126 entries, PageFull. The Rust checks the last two alone, and
 // lists data of namespace 0.
+#[tactic(auto, unfolding(page::specs::Record::with_item))]
 pub fn write_variable_sized_item(
     image: &mut [u8],
     page: &mut ThinPage,

@@ -2,14 +2,14 @@
 --
 -- Raw bytes are written. An entry of an unknown type does not load, so none is copied. A source image of another length is
 -- BadImage, before the record is looked at.
-use Rattle.std.specs.Prelude.{◌||◌, not, List, [], ◌∷◌, ℕ, ◌+◌, ◌*◌, eqb, ltb, take}
+use Rattle.std.specs.Prelude.{◌≡◌, true, ◌||◌, not, List, [], ◌∷◌, ℕ, ◌+◌, ◌*◌, ◌≤◌, ◌<◌, eqb, ltb, length, take}
 use Rattle.flash.specs.Flash.{Unit4, units}
-use Rattle.page.specs.Record.{Page, next_free, with_item}
+use Rattle.page.specs.Record.{Page, next_free, fit_to_use, with_item}
 use Rattle.page.specs.Writing.{Outcome, bad_image, bad_record, not_active, over_free, outcome, image_after, stops, item_plan}
 use Rattle.sector.specs.declared.Refusal.TheVariants.{KeyNotFound, CorruptedData}
 use Rattle.sector.specs.Answers.{Check}
 use Rattle.sector.specs.Item.{loads, hash_of_item}
-use Rattle.sector.specs.Layout.{entries_per_page, entry_size, entry_address, entry_at, field, namespace_of, span_of}
+use Rattle.sector.specs.Layout.{sector_size, entries_per_page, entry_size, entry_address, entry_at, field, namespace_of, span_of}
 
 -- load's checks on the source; span 0 or index + span over 126; span over free
 abbrev pub copy_checks : List ℕ → Page → List ℕ → ℕ → List Check
@@ -24,6 +24,16 @@ copy_checks image page source i =
     ∷ (eqb (span_of entry) 0 || ltb entries_per_page (i + span_of entry), CorruptedData)
     ∷ over_free page (span_of entry)
     ∷ []
+
+-- what passes them all
+pub record CopyFits (image : List ℕ) (page : Page) (source : List ℕ) (i : ℕ) : Type 0 where
+  pub whole : length image ≡ sector_size
+  pub source_whole : length source ≡ sector_size
+  pub fit : fit_to_use page ≡ true
+  pub inside : i < entries_per_page
+  pub some : 1 ≤ span_of (entry_at source i)
+  pub spans : i + span_of (entry_at source i) ≤ entries_per_page
+  pub room : next_free page + span_of (entry_at source i) ≤ entries_per_page
 
 -- the bytes of the item's entries as they lie in the source
 abbrev pub copied_bytes : List ℕ → ℕ → List ℕ

@@ -1,13 +1,13 @@
 // Copying an item in from another sector (page.rs `copy_item_from`): its entries go over as they lie.
 #![tactic(auto)]
 
-ghost use Rattle.std.specs.Prelude.{◌≡◌, ◌||◌, not, [], ◌∷◌, ◌+◌, ◌<◌, eqb, ltb};
+ghost use Rattle.std.specs.Prelude.{OnOk, ◌≡◌, ◌||◌, not, [], ◌∷◌, ◌+◌, ◌<◌, eqb, ltb};
 ghost use Rattle.page.specs.Writing.{over_free};
 ghost use Rattle.sector.specs.declared.Refusal.TheVariants.{KeyNotFound, CorruptedData};
 ghost use Rattle.sector.specs.Answers.{refusal};
 ghost use Rattle.sector.specs.Item.{loads};
 ghost use Rattle.sector.specs.Layout.{entries_per_page, span_of};
-ghost use Rattle.call_copy.specs.Copy.{copy_checks, copy_in, copy_in_image};
+ghost use Rattle.call_copy.specs.Copy.{CopyFits, copy_checks, copy_in, copy_in_image};
 
 use page::ThinPage;
 use sector::{ENTRIES_PER_PAGE, Refusal, SECTOR_SIZE, layout};
@@ -42,7 +42,8 @@ fn item_refusal(page: &ThinPage, entry: [u8; 32], index: usize) -> Result<(), Re
 
 // The first check that refuses, in document 01's order.
 fn copy_refusal(image: &[u8], page: &ThinPage, source: &[u8], index: usize) -> Result<(), Refusal>
-    ensures { result ≡ refusal (copy_checks image.now page.now source.now index) }
+    ensures answer { result ≡ refusal (copy_checks image.now page.now source.now index) }
+    ensures fits { OnOk result (CopyFits image.now page.now source.now index) }
 {
     if image.len() != SECTOR_SIZE {
         return Err(Refusal::BadImage);

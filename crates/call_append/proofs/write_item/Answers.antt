@@ -5,13 +5,12 @@ use mathlib.Core.List.{List}
 use borrow.Author.Rules.{rules}
 use lib.ListN.{take}
 use Rattle.std.specs.Prelude.{is_ok}
-use Rattle.page.specs.Record.{Page, with_item}
+use Rattle.page.specs.Record.{with_item}
 use Rattle.page.specs.Writing.{stops}
 use Rattle.page.proofs.Checks.{call_refused, call_ended}
 use Rattle.sector.proofs.Laws.{accepted_done, accepted_refused}
 use Rattle.sector.specs.Answers.{Check, accepted}
 use Rattle.call_append.specs.Append.{single_checks, single_plan, with_single, append_single, append_single_image}
-use Rattle.call_append.proofs.Laws.{Room, single_room}
 use Rattle.call_append.proofs.write_item.Goals as goal
 
 pub returns-in_err-single_refusal : goal.returns-in_err-single_refusal
@@ -23,25 +22,8 @@ returns-in_err-single_refusal c =
     let same : c.from_residual.result ≡ c.single_refusal.result = search rules in
     let plan = single_plan z.page.now z.item in
     let all = call_refused checks z.page.now (with_single z.page.now z.item) z.image.now (stops z.stop plan) (take z.stop plan)
-    (same ∙ c.single_refusal.ensures) (accepted_refused checks c.single_refusal.ensures refused) in
+    (same ∙ c.single_refusal.ensures.answer) (accepted_refused checks c.single_refusal.ensures.answer refused) in
     record { answer = all.0; page = all.1; image = all.2 }
-
-pub with_item-new-requires : goal.with_item-new-requires
-with_item-new-requires c =
-    let z = c.args in
-    let checks : List Check = single_checks z.image.now z.page.now z.item in
-    let done : is_ok c.single_refusal.result ≡ true = search rules in
-    let room : Room z.image.now z.page.now 1 = single_room z.image.now z.page.now z.item (accepted_done checks c.single_refusal.ensures done) in
-    (room.fit, search rules, room.room)
-
-pub write_single-total-requires : goal.write_single-total-requires
-unfolding with_item
-write_single-total-requires c =
-    let z = c.args in
-    let checks : List Check = single_checks z.image.now z.page.now z.item in
-    let done : is_ok c.single_refusal.result ≡ true = search rules in
-    let room : Room z.image.now z.page.now 1 = single_room z.image.now z.page.now z.item (accepted_done checks c.single_refusal.ensures done) in
-    (room.whole, room.room, ap (λ (page : Page). page.map) c.with_item-new.ensures)
 
 pub returns : goal.returns
 unfolding append_single append_single_image
@@ -49,7 +31,7 @@ returns c =
     let z = c.args in
     let checks : List Check = single_checks z.image.now z.page.now z.item in
     let done : is_ok c.single_refusal.result ≡ true = search rules in
-    let accepts : accepted checks ≡ true = accepted_done checks c.single_refusal.ensures done in
+    let accepts : accepted checks ≡ true = accepted_done checks c.single_refusal.ensures.answer done in
     let made : c.with_item-new.result ≡ with_single z.page.now z.item = c.with_item-new.ensures ∙ ap (with_item _ _ _) c.calculate_hash-hash.ensures in
     let all = call_ended checks z.page.now (with_single z.page.now z.item) z.image.now z.stop (single_plan z.page.now z.item) accepts
     c.write_single-total.ensures.total made c.write_single-total.ensures.image c.ended.ensures.answer c.ended.ensures.page in

@@ -3,9 +3,8 @@ use mathlib.Core.Path.{◌≡◌, ap, ◌∙◌}
 use mathlib.Core.Bool.{true, false}
 use mathlib.Core.List.{List, ◌++◌}
 use Prim.Native.Nat.{ℕ, ◌+◌, ◌-◌}
-use native.Mathlib.Omega.{arith}
 use borrow.Author.Rules.{rules}
-use lib.ListN.{length, take, drop, length-take}
+use lib.ListN.{length, take, drop}
 use Rattle.std.specs.Prelude.{is_ok}
 use Rattle.flash.specs.Flash.{Unit4, units, run}
 use Rattle.sector.proofs.Laws.{accepted_done, accepted_refused}
@@ -16,7 +15,7 @@ use Rattle.sector.specs.Answers.{Check}
 use Rattle.sector.specs.Layout.{entry_address, span_of}
 use Rattle.sector.specs.Map.{map_units}
 use Rattle.call_copy.specs.Copy.{copy_checks, copy_plan, with_copy, copy_in, copy_in_image}
-use Rattle.call_copy.proofs.Laws.{CopyFits, copy_fits, plan_copied, with_copied}
+use Rattle.call_copy.proofs.Laws.{plan_copied, with_copied}
 use Rattle.call_copy.proofs.copy_item_from.Goals as goal
 
 pub returns-in_err-copy_refusal : goal.returns-in_err-copy_refusal
@@ -28,53 +27,8 @@ returns-in_err-copy_refusal c =
     let refused : is_ok c.copy_refusal.result ≡ false = search rules in
     let same : c.from_residual.result ≡ c.copy_refusal.result = search rules in
     let all = call_refused checks z.page.now (with_copy z.page.now z.source.now z.index) z.image.now (stops z.stop plan) (take z.stop plan)
-    (same ∙ c.copy_refusal.ensures) (accepted_refused checks c.copy_refusal.ensures refused) in
+    (same ∙ c.copy_refusal.ensures.answer) (accepted_refused checks c.copy_refusal.ensures.answer refused) in
     record { answer = all.0; page = all.1; image = all.2 }
-
-pub entry_at-entry-requires : goal.entry_at-entry-requires
-entry_at-entry-requires c =
-    let z = c.args in
-    let fits : CopyFits z.image.now z.page.now z.source.now z.index = copy_fits z.image.now z.page.now z.source.now z.index c.copy_refusal.ensures (search rules) in
-    (fits.source_whole, fits.inside)
-
-pub with_item-new-requires : goal.with_item-new-requires
-with_item-new-requires c =
-    let z = c.args in
-    let fits : CopyFits z.image.now z.page.now z.source.now z.index = copy_fits z.image.now z.page.now z.source.now z.index c.copy_refusal.ensures (search rules) in
-    rw (c.entry_at-entry.ensures) (fits.fit, fits.some, fits.room)
-
-pub entry_address-first-requires : goal.entry_address-first-requires
-entry_address-first-requires c =
-    let z = c.args in
-    let fits : CopyFits z.image.now z.page.now z.source.now z.index = copy_fits z.image.now z.page.now z.source.now z.index c.copy_refusal.ensures (search rules) in
-    omega arith
-
-pub overflow_add-index : goal.overflow_add-index
-overflow_add-index c =
-    let z = c.args in
-    let fits : CopyFits z.image.now z.page.now z.source.now z.index = copy_fits z.image.now z.page.now z.source.now z.index c.copy_refusal.ensures (search rules) in
-    omega (arith, ap span_of c.entry_at-entry.ensures)
-
-pub entry_address-end-requires : goal.entry_address-end-requires
-entry_address-end-requires c =
-    let z = c.args in
-    let fits : CopyFits z.image.now z.page.now z.source.now z.index = copy_fits z.image.now z.page.now z.source.now z.index c.copy_refusal.ensures (search rules) in
-    omega (arith, ap span_of c.entry_at-entry.ensures)
-
-pub slice_bounds-write_entries-end : goal.slice_bounds-write_entries-end
-slice_bounds-write_entries-end c =
-    let z = c.args in
-    let fits : CopyFits z.image.now z.page.now z.source.now z.index = copy_fits z.image.now z.page.now z.source.now z.index c.copy_refusal.ensures (search rules) in
-    omega (arith, ap span_of c.entry_at-entry.ensures, c.entry_address-end.ensures)
-
-pub write_entries-total-requires : goal.write_entries-total-requires
-write_entries-total-requires c =
-    let z = c.args in
-    let fits : CopyFits z.image.now z.page.now z.source.now z.index = copy_fits z.image.now z.page.now z.source.now z.index c.copy_refusal.ensures (search rules) in
-    let read = ap span_of c.entry_at-entry.ensures in
-    let first = c.entry_address-first in
-    let end = c.entry_address-end in
-    (fits.whole, omega (arith, length-take (end.result - first.result) (drop first.result z.source.now)), omega arith, omega arith)
 
 pub returns : goal.returns
 unfolding copy_in copy_in_image
@@ -97,7 +51,7 @@ returns c =
     c.entry_address-end.ensures in
     let copied : c.with_item-new.result ≡ with_copy page source z.index = c.with_item-new.ensures
     ∙ with_copied page source c.entry_at-entry.result z.index _ c.entry_at-entry.ensures c.hash_of_item-hash.ensures in
-    let all = call_ended checks page (with_copy page source z.index) z.image.now z.stop plan (accepted_done checks c.copy_refusal.ensures done)
+    let all = call_ended checks page (with_copy page source z.index) z.image.now z.stop plan (accepted_done checks c.copy_refusal.ensures.answer done)
     (c.write_entries-total.ensures.total ∙ ap length planned)
     copied
     (c.write_entries-total.ensures.image ∙ ap (λ (units : List Unit4). run (take z.stop units) z.image.now) planned)
