@@ -55,7 +55,7 @@ fn all_usable(map: [u8; 32], first: usize, count: usize) -> bool
     (first..first + count).all(|index| is_usable(sector_map::state_at(map, index)))
 }
 
-// The rule that refuses an entry as a header, of those `left` entries that lie after it on the page.
+// The rule that refuses an entry as a header, where `left` entries lie after it on the page.
 #[tactic(auto, unfolding(crate::specs::Reading::header_refusal, sector::specs::Types::kind_of))]
 fn header_refusal(entry: [u8; 32], left: usize) -> Option<Reason>
     ensures { result ≡ header_refusal entry left }
@@ -132,7 +132,7 @@ pub fn verdict_at(image: &[u8], map: [u8; 32], index: usize) -> Verdict
 
 // A walk over the entries of a page: the verdict at each entry that it comes to, with its index. After an item it goes on
 // at the first entry that the item does not cover.
-#[derive(Clone, Copy)]
+#[derive(Drop)]
 pub struct Walk<'a> {
     image: &'a [u8],
     map: [u8; 32],

@@ -1,6 +1,5 @@
 // The next kept item, from each entry of a page on, and past its end.
 use crate::images;
-use opening_found::Next;
 use sector::{ENTRY_SIZE, ITEMS_OFFSET, MAP_OFFSET, layout};
 use std::io;
 
@@ -25,12 +24,12 @@ fn page() -> [u8; 4096] {
 fn print_next(rt: &impl Print, image: &[u8; 4096], from: usize) -> io::Result<()> {
     let map = layout::map_of(image);
     match opening_found::next_kept(image, map, from) {
-        Next::At(index, span) => test_print::line(
+        Some(item) => test_print::line(
             rt,
             b"next kept from #: index #, span #\n",
-            [from as u64, index as u64, span as u64, 0, 0, 0, 0],
+            [from as u64, item.index as u64, item.span as u64, 0, 0, 0, 0],
         ),
-        Next::End => test_print::line(
+        None => test_print::line(
             rt,
             b"next kept from #: none\n",
             [from as u64, 0, 0, 0, 0, 0, 0],

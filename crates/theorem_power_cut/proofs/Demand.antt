@@ -20,7 +20,8 @@ use Rattle.call_erase.specs.Erase.{erase_checks, erase_plan, erase, erase_image}
 use Rattle.opening_reading.specs.Reading.{Item, item}
 use Rattle.opening_found.specs.Found.{header_verdict_of, kept_items}
 use Rattle.opening.specs.Opening.{opening, opening_image}
-use Rattle.opening_found.specs.declared.HeaderVerdict.TheVariants.{Blank}
+use Rattle.std.specs.Prelude.{Ok}
+use Rattle.opening_found.specs.declared.Header.TheVariants.{Blank}
 use Rattle.theorem_writing.specs.Promises.{SetsNoBit, erasing, outcome_of, image_of, entry_units}
 use Rattle.theorem_writing.proofs.Promises.{only_clears_bits}
 use Rattle.theorem_power_cut.specs.History.{AppendOrCopy, entries_of_write, new_item, without_item, History, opened, written, erased, call_of, put_request}
@@ -117,7 +118,7 @@ held_image {image} h = rw (eq-eqb (length image) 4096 (standing_size h.standing)
 abbrev erased_page : List ℕ
 erased_page = replicate 4096 0xFF
 
-blank_verdict : header_verdict_of erased_page ≡ Blank
+blank_verdict : header_verdict_of erased_page ≡ Ok Blank
 unfolding header_verdict_of state_of_word
 blank_verdict = rw (all_ones-replicate 4096)
 

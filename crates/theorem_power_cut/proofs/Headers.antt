@@ -24,7 +24,9 @@ use Rattle.sector.specs.Item.{crc_start}
 use Rattle.sector.specs.Layout.{number, little_endian, state_word, version_of, stored_header_crc}
 use Rattle.sector.proofs.Laws.{little_endian-number}
 use Rattle.opening_found.specs.Found.{header_verdict_of}
-use Rattle.opening_found.specs.declared.HeaderVerdict.TheVariants.{Blank, Opens, WrongPageState, WrongVersion, WrongHeaderCrc}
+use Rattle.std.specs.Prelude.{Ok, Err}
+use Rattle.opening_found.specs.declared.Header.TheVariants.{Blank, Opens}
+use Rattle.opening_found.specs.declared.HeaderError.TheVariants.{WrongPageState, WrongVersion, WrongHeaderCrc}
 use Rattle.theorem_writing.proofs.FitRecords.{known_state}
 use Rattle.theorem_power_cut.proofs.AtHand.{field_front, version_front}
 
@@ -38,29 +40,29 @@ pub record HeaderOpens (header : List ℕ) : Type 0 where
 
 -- where the page opens none of the rules holds, and it is blank by its own rule alone
 by_rules : (blank state version crc : Bool)
-    → let verdict = cond blank Blank (cond (not state) WrongPageState (cond (not version) WrongVersion (cond (not crc) WrongHeaderCrc Opens))) in
-    (verdict ≡ Opens → (state ≡ true) × (version ≡ true) × (crc ≡ true)) × (verdict ≡ Blank → blank ≡ true)
+    → let verdict = cond blank (Ok Blank) (cond (not state) (Err WrongPageState) (cond (not version) (Err WrongVersion) (cond (not crc) (Err WrongHeaderCrc) (Ok Opens)))) in
+    (verdict ≡ Ok Opens → (state ≡ true) × (version ≡ true) × (crc ≡ true)) × (verdict ≡ Ok Blank → blank ≡ true)
 by_rules true state version crc = ((λ e. (cc, cc, cc)), (λ e. refl))
 by_rules false false version crc = ((λ e. (cc, cc, cc)), (λ e. cc))
 by_rules false true false crc = ((λ e. (cc, cc, cc)), (λ e. cc))
 by_rules false true true false = ((λ e. (cc, cc, cc)), (λ e. cc))
 by_rules false true true true = ((λ e. (refl, refl, refl)), (λ e. cc))
 
-pub opens_facts : (image : List ℕ) → header_verdict_of image ≡ Opens → HeaderOpens image
+pub opens_facts : (image : List ℕ) → header_verdict_of image ≡ Ok Opens → HeaderOpens image
 unfolding header_verdict_of
 opens_facts image e =
     let state = state_of_word (state_word image) in
     let facts = (by_rules (is_uninitialized state && all_ones image) (is_in_use state) (eqb (version_of image) 0xFE) (eqb (header_crc image) (stored_header_crc image))).0 e in
     record { state = facts.0; version = facts.1; crc = facts.2 }
 
-pub blank_facts : (image : List ℕ) → header_verdict_of image ≡ Blank → all_ones image ≡ true
+pub blank_facts : (image : List ℕ) → header_verdict_of image ≡ Ok Blank → all_ones image ≡ true
 unfolding header_verdict_of
 blank_facts image e =
     let state = state_of_word (state_word image) in
     let none = (by_rules (is_uninitialized state && all_ones image) (is_in_use state) (eqb (version_of image) 0xFE) (eqb (header_crc image) (stored_header_crc image))).1 e in
     ((and-eq-true_iff (is_uninitialized state) (all_ones image)).0 none).1
 
-pub opens_of : (image : List ℕ) → HeaderOpens image → header_verdict_of image ≡ Opens
+pub opens_of : (image : List ℕ) → HeaderOpens image → header_verdict_of image ≡ Ok Opens
 unfolding header_verdict_of
 opens_of image o = rw (known_state is_in_use refl (state_of_word (state_word image)) o.state, o.state, o.version, o.crc)
 

@@ -18,8 +18,10 @@ use Rattle.sector.proofs.Marks.{image_parts, map_of_parts}
 use Rattle.opening_reading.specs.Reading.{Item}
 use Rattle.opening_found.specs.Found.{header_verdict_of, kept_items}
 use Rattle.opening.specs.Opening.{opened_map, opening_plan, opened_page, answer_for, opening, opening_image}
-use Rattle.opening_found.specs.declared.HeaderVerdict.{HeaderVerdict}
-use Rattle.opening_found.specs.declared.HeaderVerdict.TheVariants.{Blank, Opens, WrongPageState, WrongVersion, WrongHeaderCrc}
+use Rattle.std.specs.Prelude.{Result, Ok, Err}
+use Rattle.opening_found.specs.declared.Header.{Header}
+use Rattle.opening_found.specs.declared.Header.TheVariants.{Blank, Opens}
+use Rattle.opening_found.specs.declared.HeaderError.{HeaderError}
 use Rattle.theorem_reopening.proofs.Cuts.{kept_from_empties}
 use Rattle.theorem_writing.proofs.FitRecords.{bytes_of}
 use Rattle.theorem_power_cut.specs.History.{Sector}
@@ -46,7 +48,7 @@ pub data Known (image : List ℕ) (page : Page) (items : List Item) : Type 0 whe
 sector_size_lem : (image : List ℕ) → length image ≡ 4096 → eqb (length image) 4096 ≡ true
 sector_size_lem image h = eq-eqb (length image) 4096 h
 
-module _ (image : List ℕ) (sector : Sector image) (opens : header_verdict_of image ≡ Opens) where
+module _ (image : List ℕ) (sector : Sector image) (opens : header_verdict_of image ≡ Ok Opens) where
   abbrev after : List ℕ
   after = run (opening_plan image) image
 
@@ -101,12 +103,10 @@ pub opened_known : (image : List ℕ) → Sector image → (opening image).answe
 unfolding opening opening_image
 opened_known image sector d = by_verdict (header_verdict_of image) refl (rw (sector_size_lem image sector.size) at d)
   where
-    by_verdict : (v : HeaderVerdict) → header_verdict_of image ≡ v → (answer_for v image).answer ≡ Done
+    by_verdict : (v : Result Header HeaderError) → header_verdict_of image ≡ v → (answer_for v image).answer ≡ Done
         → Known (opening_image image) (opening image).page (kept_items image)
-    by_verdict Opens e d = rw (sector_size_lem image sector.size, e) (held (opened_held image sector e))
-    by_verdict Blank e d =
+    by_verdict (Ok Opens) e d = rw (sector_size_lem image sector.size, e) (held (opened_held image sector e))
+    by_verdict (Ok Blank) e d =
         let ones = blank_image image sector.size (blank_facts image e) in
         rw (sector_size_lem image sector.size, e) (blank (unfold run in ones) refl (ap kept_items ones ∙ blank_kept))
-    by_verdict WrongPageState e d = let z : ◌≡◌ {A = ℕ} 0 1 = cc in absurd (omega arith)
-    by_verdict WrongVersion e d = let z : ◌≡◌ {A = ℕ} 0 1 = cc in absurd (omega arith)
-    by_verdict WrongHeaderCrc e d = let z : ◌≡◌ {A = ℕ} 0 1 = cc in absurd (omega arith)
+    by_verdict (Err refused) e d = let z : ◌≡◌ {A = ℕ} 0 1 = cc in absurd (omega arith)

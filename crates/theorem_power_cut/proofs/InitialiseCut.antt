@@ -4,7 +4,6 @@
 -- is not refused.
 -- The phases are the state word and the sequence; the version, and 0xFF after it; the CRC. The version is 0xFF before the second ends. From then on
 -- the page is the finished one exactly where the CRC is right.
-use Rattle.std.specs.Prelude.{Err}
 use mathlib.Core.Path.{◌≡◌, refl, sym, ap, ap₂, ◌∙◌, subst}
 use mathlib.Core.Bool.{Bool, true, false, ◌&&◌, not, cond}
 use mathlib.Core.List.{List, [], ◌∷◌, ◌++◌, append-nil}
@@ -33,7 +32,9 @@ use Rattle.sector.proofs.Laws.{accepted_head, little_endian-number}
 use Rattle.call_page_state.specs.Calls.{initialise_checks, initialise_plan, initialise_image}
 use Rattle.opening_found.specs.Found.{header_verdict_of}
 use Rattle.opening.specs.Opening.{answer_for, opening}
-use Rattle.opening_found.specs.declared.HeaderVerdict.TheVariants.{Blank, Opens, WrongPageState, WrongVersion, WrongHeaderCrc}
+use Rattle.std.specs.Prelude.{Ok, Err}
+use Rattle.opening_found.specs.declared.Header.TheVariants.{Blank, Opens}
+use Rattle.opening_found.specs.declared.HeaderError.TheVariants.{WrongPageState, WrongVersion, WrongHeaderCrc}
 use Rattle.theorem_power_cut.specs.PowerCut.{InitialiseCut}
 use Rattle.theorem_power_cut.proofs.Laid.{bytes_little_endian}
 use Rattle.theorem_power_cut.proofs.Held.{blank_image}
@@ -126,7 +127,7 @@ module _ (sequence : ℕ) where
   no_version cut size v = by_ones (all_ones cut) refl
     where
       refused : (none used : Bool)
-          → answer_for (cond (none && false) Blank (cond (not used) WrongPageState (cond true WrongVersion (cond (not (eqb (header_crc cut) (stored_header_crc cut))) WrongHeaderCrc Opens)))) cut
+          → answer_for (cond (none && false) (Ok Blank) (cond (not used) (Err WrongPageState) (cond true (Err WrongVersion) (cond (not (eqb (header_crc cut) (stored_header_crc cut))) (Err WrongHeaderCrc) (Ok Opens))))) cut
           ≡ answered (Err CorruptedData) uninitialized
       refused true true = refl
       refused true false = refl

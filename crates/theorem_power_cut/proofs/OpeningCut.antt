@@ -19,8 +19,10 @@ use Rattle.sector.proofs.Marks.{image_parts, map_of_parts, entries_parts, unpack
 use Rattle.opening_reading.specs.Reading.{kept_from, opened_states}
 use Rattle.opening_found.specs.Found.{header_verdict_of, kept_items}
 use Rattle.opening.specs.Opening.{opened_map, first_map, opening_plan, opened_page, opening, opening_image, opening_stopped_image, plan_for}
-use Rattle.opening_found.specs.declared.HeaderVerdict.{HeaderVerdict}
-use Rattle.opening_found.specs.declared.HeaderVerdict.TheVariants.{Blank, Opens, WrongPageState, WrongVersion, WrongHeaderCrc}
+use Rattle.std.specs.Prelude.{Result, Ok, Err}
+use Rattle.opening_found.specs.declared.Header.{Header}
+use Rattle.opening_found.specs.declared.Header.TheVariants.{Blank, Opens}
+use Rattle.opening_found.specs.declared.HeaderError.{HeaderError}
 use Rattle.theorem_reopening.proofs.Reopened.{length-opened_states}
 use Rattle.opening_reading.proofs.Verdicts.{States, Entries}
 use Rattle.theorem_reopening.proofs.Mixed.{Mix, length_mix, mix_same, mix_append, Steps, length_steps, steps_same, steps_append, between_mix}
@@ -57,7 +59,7 @@ module _ (image : List ℕ) (size : length image ≡ 4096) (bytes : Bytes image)
 
   -- ---- another map that reads the same
 
-  module _ (opens : header_verdict_of image ≡ Opens) (mid : List ℕ) (mid_size : length mid ≡ 32) where
+  module _ (opens : header_verdict_of image ≡ Ok Opens) (mid : List ℕ) (mid_size : length mid ≡ 32) where
     abbrev cut : List ℕ
     cut = head ++ (mid ++ tail)
 
@@ -70,7 +72,7 @@ module _ (image : List ℕ) (size : length image ≡ 4096) (bytes : Bytes image)
     cut_size : length cut ≡ 4096
     cut_size = omega (arith, length-append head (mid ++ tail), length-append mid tail, head_size, mid_size, length-drop 64 image)
 
-    cut_opens : header_verdict_of cut ≡ Opens
+    cut_opens : header_verdict_of cut ≡ Ok Opens
     cut_opens =
         opens_of cut
         (image_opens head (mid ++ tail) head_size (header_opens head (map_of image ++ tail) head_size (subst HeaderOpens (image_parts image) (opens_facts image opens))))
@@ -157,7 +159,7 @@ module _ (image : List ℕ) (size : length image ≡ 4096) (bytes : Bytes image)
         ap (drop 126) parts.split ∙ drop_at parts.first parts.rest 126 long ∙ mix_same parts.rest_mix,
       )
 
-  module _ (opens : header_verdict_of image ≡ Opens) where
+  module _ (opens : header_verdict_of image ≡ Ok Opens) where
     -- in a pass from one map to another, each mix of whose states is a cut opening
     cut_pass : (a b : List ℕ) (from to : States) → length a ≡ 32 → length b ≡ 32 → Bytes (head ++ (a ++ tail)) → Steps from to
         → unpack a ≡ from ++ spare → unpack b ≡ to ++ spare → length from ≡ 126 → length to ≡ 126
@@ -209,9 +211,7 @@ opening_cut image n sector = rw (eq-eqb (length image) 4096 sector.size) (by_ver
     unchanged : Same (run (take n []) image) image
     unchanged = subst (λ (cut : List ℕ). Same cut image) (sym (nothing_done n image)) (refl, refl, refl)
 
-    by_verdict : (v : HeaderVerdict) → header_verdict_of image ≡ v → Same (run (take n (plan_for v image)) image) image
-    by_verdict Opens e = opens_cut image sector.size (bytes_of image sector.bytes) e n (whole_units_cut (opening_plan image) image n)
-    by_verdict Blank e = unchanged
-    by_verdict WrongPageState e = unchanged
-    by_verdict WrongVersion e = unchanged
-    by_verdict WrongHeaderCrc e = unchanged
+    by_verdict : (v : Result Header HeaderError) → header_verdict_of image ≡ v → Same (run (take n (plan_for v image)) image) image
+    by_verdict (Ok Opens) e = opens_cut image sector.size (bytes_of image sector.bytes) e n (whole_units_cut (opening_plan image) image n)
+    by_verdict (Ok Blank) e = unchanged
+    by_verdict (Err refused) e = unchanged

@@ -10,8 +10,10 @@ use Rattle.flash.specs.Flash.{Unit4, units, run}
 use Rattle.flash.proofs.Laws.{Within, within_nil, within_wider, within_append, within_take, within_units, take_run, drop_run}
 use Rattle.sector.specs.Layout.{same_bytes}
 use Rattle.opening_marks.specs.Marks.{map_unit, changed_units}
-use Rattle.opening_found.specs.declared.HeaderVerdict.{HeaderVerdict}
-use Rattle.opening_found.specs.declared.HeaderVerdict.TheVariants.{Blank, Opens, WrongPageState, WrongVersion, WrongHeaderCrc}
+use Rattle.std.specs.Prelude.{Result, Ok, Err}
+use Rattle.opening_found.specs.declared.Header.{Header}
+use Rattle.opening_found.specs.declared.Header.TheVariants.{Blank, Opens}
+use Rattle.opening_found.specs.declared.HeaderError.{HeaderError}
 use Rattle.opening_found.specs.Found.{header_verdict_of}
 use Rattle.opening.specs.Opening.{first_map, opened_map, opening_plan, plan_for, opening_image, opening_stopped_image}
 use Rattle.theorem_writing.proofs.Promises.{after_clears}
@@ -29,13 +31,11 @@ within_changed j (suc m) old new h = within_append (one (same_bytes (map_unit j 
         within_wider 32 64 (omega arith) (omega (arith, length-take 4 (drop (4 * j) new)))
         (within_units (32 + 4 * j) (map_unit j new))
 
-within_plan : (verdict : HeaderVerdict) (image : List ℕ) → Within 32 64 (plan_for verdict image)
-within_plan Blank image = within_nil
-within_plan Opens image =
+within_plan : (verdict : Result Header HeaderError) (image : List ℕ) → Within 32 64 (plan_for verdict image)
+within_plan (Ok Blank) image = within_nil
+within_plan (Ok Opens) image =
     unfold opening_plan in within_append (within_changed 0 8 _ (first_map image) (omega arith)) (within_changed 0 8 (first_map image) (opened_map image) (omega arith))
-within_plan WrongPageState image = within_nil
-within_plan WrongVersion image = within_nil
-within_plan WrongHeaderCrc image = within_nil
+within_plan (Err refused) image = within_nil
 
 -- any of them
 map_alone : {plan : List Unit4} (image : List ℕ) → Within 32 64 plan → MapAlone image (run plan image)

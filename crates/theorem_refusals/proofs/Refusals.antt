@@ -1,5 +1,4 @@
 -- A refusal of load data and of opening changes nothing: where no check refuses the answer is Done or Stopped, and neither is a refusal.
-use Rattle.std.specs.Prelude.{Err}
 use mathlib.Core.Path.{◌≡◌, refl, ap}
 use mathlib.Core.Bool.{Bool, true, false, cond, false≢true}
 use mathlib.Core.List.{List, []}
@@ -13,8 +12,10 @@ use Rattle.page.specs.Writing.{answered, stops}
 use Rattle.sector.specs.declared.Refusal.TheVariants.{Stopped}
 use Rattle.sector.specs.Answers.{accepted}
 use Rattle.call_load_data.specs.Payload.{data_checks, data_answer, data_output}
-use Rattle.opening_found.specs.declared.HeaderVerdict.{HeaderVerdict}
-use Rattle.opening_found.specs.declared.HeaderVerdict.TheVariants.{Blank, Opens, WrongPageState, WrongVersion, WrongHeaderCrc}
+use Rattle.std.specs.Prelude.{Result, Ok, Err}
+use Rattle.opening_found.specs.declared.Header.{Header}
+use Rattle.opening_found.specs.declared.Header.TheVariants.{Blank, Opens}
+use Rattle.opening_found.specs.declared.HeaderError.{HeaderError}
 use Rattle.opening_found.specs.Found.{header_verdict_of}
 use Rattle.opening.specs.Opening.{answer_for, plan_for, opening_stopped, opening_stopped_image}
 use Rattle.theorem_writing.specs.Promises.{is_refusal}
@@ -36,16 +37,14 @@ unfolding run
 nothing_run n image = ap (λ (plan : List Unit4). run plan image) (take-nil n)
 
 -- by the header's verdict, and by whether opening is stopped
-refused_verdict : (verdict : HeaderVerdict) (stopped : Bool) (image : List ℕ) (n : ℕ)
+refused_verdict : (verdict : Result Header HeaderError) (stopped : Bool) (image : List ℕ) (n : ℕ)
     → is_refusal (cond stopped (answered (Err Stopped) uninitialized) (answer_for verdict image)).answer ≡ true
     → (run (take n (plan_for verdict image)) image ≡ image)
     × ((cond stopped (answered (Err Stopped) uninitialized) (answer_for verdict image)).page ≡ uninitialized)
 refused_verdict verdict true image n h = absurd (false≢true h)
-refused_verdict Blank false image n h = absurd (false≢true h)
-refused_verdict Opens false image n h = absurd (false≢true h)
-refused_verdict WrongPageState false image n h = (nothing_run n image, refl)
-refused_verdict WrongVersion false image n h = (nothing_run n image, refl)
-refused_verdict WrongHeaderCrc false image n h = (nothing_run n image, refl)
+refused_verdict (Ok Blank) false image n h = absurd (false≢true h)
+refused_verdict (Ok Opens) false image n h = absurd (false≢true h)
+refused_verdict (Err reason) false image n h = (nothing_run n image, refl)
 
 pub refused_opens_nothing : RefusedOpensNothing
 unfolding opening_stopped opening_stopped_image
