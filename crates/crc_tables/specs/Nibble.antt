@@ -1,8 +1,8 @@
--- The nibble that the code looks up, and the number that it loads from bytes.
+-- The nibble that the code looks up.
 --
--- In order: a single bit after its shifts; a number from the values of its bits; a nibble after its shifts; the number of bytes, lowest first.
--- No public contract cites this file: `nibble-shifts` ties a nibble to `shifts`.
-use Rattle.std.specs.Prelude.{List, [], ◌∷◌, ◌++◌, map, ℕ, zero, suc, ◌+◌, ◌-◌, ◌*◌, get_or}
+-- In order: a single bit after its shifts; numbers from the values of their bits; the nibbles after their shifts.
+-- No public contract of another crate cites this file: `nibble_shifts` (crc/Nibbles) ties a nibble to `shifts`.
+use Rattle.std.specs.Prelude.{List, [], ◌∷◌, ◌++◌, map, ℕ, ◌-◌, get_or}
 use Rattle.std.specs.Int.Bits.{bit_xor}
 
 -- a 1 at the low end, after 0, 1, .., 64 shifts
@@ -18,21 +18,15 @@ ones =
     ∷ 0xA6770BB4 ∷ 0x533B85DA ∷ 0x299DC2ED ∷ 0xF9766256 ∷ 0x7CBB312B ∷ 0xD3E51BB5 ∷ 0x844A0EFA ∷ 0x4225077D
     ∷ 0xCCAA009E ∷ []
 
--- what a bit adds: nothing for 0, its value for 1
-abbrev pub with_bit : (sum bit value : ℕ) → ℕ
-with_bit sum zero value = sum
-with_bit sum (suc bit) value = bit_xor sum value
-
 -- what each number of some bits adds up to, in the order of the numbers; the values of the bits come highest first
 abbrev pub spread : List ℕ → List ℕ
 spread [] = 0 ∷ []
 spread (top ∷ bits) = spread bits ++ map (λ (sum : ℕ). bit_xor sum top) (spread bits)
 
--- a nibble after n shifts, of which its bit j needs j to reach the low end
-abbrev pub nibble : (n value : ℕ) → ℕ
-nibble n value = get_or (spread (get_or ones (n - 3) 0 ∷ get_or ones (n - 2) 0 ∷ get_or ones (n - 1) 0 ∷ get_or ones n 0 ∷ [])) value 0
+-- each nibble after n shifts, of which its bit j needs j to reach the low end
+abbrev pub nibbles : ℕ → List ℕ
+nibbles n = spread (get_or ones (n - 3) 0 ∷ get_or ones (n - 2) 0 ∷ get_or ones (n - 1) 0 ∷ get_or ones n 0 ∷ [])
 
--- the number of bytes, lowest first; of none it is 0
-abbrev pub loaded_word : List ℕ → ℕ
-loaded_word [] = 0
-loaded_word (byte ∷ bytes) = loaded_word bytes * 256 + byte
+-- a nibble after n shifts
+abbrev pub nibble : (n value : ℕ) → ℕ
+nibble n value = get_or (nibbles n) value 0
