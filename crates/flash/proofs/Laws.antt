@@ -3,25 +3,25 @@
 -- In order: tests of a whole list; bytes at an address; new bytes that only clear bits; the units of a write;
 -- units done one after the other; where units lie, and what they leave alone. The laws of lists and numbers (Lists) are passed on.
 use mathlib.Core.Path.{◌≡◌, refl, sym, ap, ◌∙◌, subst}
-use mathlib.Core.Bool.{Bool, true, false, ◌&&◌, cond, false≢true, and-eq-true_iff}
+use mathlib.Core.Bool.{Bool, true, false, ◌&&◌, cond, false≢true, and-eq-true_iff, and-true, and_assoc}
 use mathlib.Core.List.{List, [], ◌∷◌, ◌++◌, append_assoc}
 use mathlib.Core.Logic.{◌⊎◌, inl, inr}
-use Prim.Native.Nat.{ℕ, zero, suc, ◌≤◌, ◌<◌, ◌+◌, ◌-◌, ◌*◌, ◌/◌, ◌%◌}
-use native.Mathlib.Nat.{le_of_suc-le-suc, lt_of_le_of_lt, zero-add, suc-add, add-zero}
+use Prim.Native.Nat.{ℕ, zero, suc, ◌≤◌, ◌<◌, ◌+◌, ◌-◌, ◌*◌, ◌/◌, ◌%◌, min}
+use native.Mathlib.Nat.{le_of_suc-le-suc, lt_of_le_of_lt, zero-add, suc-add, add-zero, add-suc}
 use native.Mathlib.Omega.{arith}
+use native.Mathlib.Decide.{dec_le}
+use native.Mathlib.Numerals.{add-one}
 use lib.Bits.{bit_and, and_le_l, and_le_r, and_comm, and_self}
-use lib.ListN.{length, take, drop, get_or, set, replicate, length-append, replicate-append-replicate, take-append-drop}
-use lib.Seq.{take-nil}
+use lib.ListN.{length, take, drop, get_or, set, replicate, length-append, replicate-append-replicate, take-append-drop, drop_of_length-le}
+use lib.Seq.{take-nil, take_all, drop-cons}
 use borrow.Author.Tests.{eqb-true, eq-eqb, ne_eqb}
-pub use Rattle.flash.proofs.Lists.{take_append, drop_take, Bytes, bytes_nil, bytes_cons, bytes_of_get_d, bytes_append, bytes_take, bytes_drop, bytes_ones, neither, every_append, every_drop, every_past, four_suc, and_ones, bit_and_assoc}
+use Rattle.std.proofs.lemmas.Nat.{and_assoc as bit_and_assoc}
+use Rattle.std.specs.List.{fold}
+pub use Rattle.flash.proofs.Lists.{take_append, drop_take, Bytes, bytes_nil, bytes_cons, bytes_of_get_d, bytes_append, bytes_take, bytes_drop, bytes_ones, neither, every_append, every_drop, every_past, four_suc, and_ones}
 use Rattle.flash.proofs.Lists.{four_more}
 use Rattle.flash.specs.Flash.{is_ones, all_ones, program, Unit4, unit, tail_units, units, run, OnlyClears, clears_nil, clears_cons}
 
 -- ---- tests of a whole list
-
-pub all_ones-drop : (bytes : List ℕ) (i : ℕ) → i < length bytes → all_ones (drop i bytes) ≡ (is_ones (get_or bytes i 0) && all_ones (drop (suc i) bytes))
-unfolding all_ones
-all_ones-drop bytes i h = every_drop is_ones bytes i 0 h
 
 pub all_ones_past : (bytes : List ℕ) (i : ℕ) → length bytes ≤ i → all_ones (drop i bytes) ≡ true
 unfolding all_ones
@@ -47,6 +47,18 @@ is_ones_and a b ha hb = go (is_ones a) (is_ones b) refl refl
     go false t p q = ne_eqb (bit_and a b) 255 (λ e. false≢true (sym p ∙ eq-eqb a 255 (omega (arith, and_le_l a b))))
     go true false p q = ne_eqb (bit_and a b) 255 (λ e. false≢true (sym q ∙ eq-eqb b 255 (omega (arith, and_le_r a b))))
 
+-- the AND of some bytes is 0xFF if each of them is
+fold_ones : (ones : ℕ) (bytes : List ℕ) → ones < 256 → ((i : ℕ) → get_or bytes i 0 < 256) → is_ones (fold bit_and ones bytes) ≡ (is_ones ones && all_ones bytes)
+unfolding all_ones
+fold_ones ones [] p h = sym (and-true (is_ones ones))
+fold_ones ones (byte ∷ bytes) p h =
+    fold_ones (bit_and ones byte) bytes (lt_of_le_of_lt (and_le_l ones byte) p) (λ i. h (suc i))
+    ∙ ap (λ (here : Bool). here && all_ones bytes) (is_ones_and ones byte p (h 0))
+    ∙ and_assoc (is_ones ones) (is_ones byte) (all_ones bytes)
+
+pub all_ones_fold : (bytes : List ℕ) → ((i : ℕ) → get_or bytes i 0 < 256) → is_ones (fold bit_and 255 bytes) ≡ all_ones bytes
+all_ones_fold bytes h = fold_ones 255 bytes (omega arith) h
+
 -- ---- bytes at an address
 
 pub length_program : (image : List ℕ) (address : ℕ) (bytes : List ℕ) → length (program image address bytes) ≡ length image
@@ -70,6 +82,18 @@ program_cons [] address new bytes h = refl
 program_cons (old ∷ image) zero new bytes h = refl
 program_cons (old ∷ image) (suc address) new bytes h =
     ap (λ (rest : List ℕ). old ∷ rest) (program_cons image address new bytes (le_of_suc-le-suc h))
+
+-- so a loop that stores goes on from what is left
+pub program_next : (image bytes : List ℕ) (address i : ℕ) → address + i < length image → i < length bytes
+    → program (set image (address + i) (bit_and (get_or image (address + i) 0) (get_or bytes i 0))) (address + (i + 1)) (drop (i + 1) bytes)
+    ≡ program image (address + i) (drop i bytes)
+program_next image bytes address i inside h =
+    rw (add-one i, add-suc, drop-cons bytes i 0 h)
+    (sym (program_cons image (address + i) (get_or bytes i 0) (drop (suc i) bytes) inside))
+
+-- until nothing is
+pub program_end : (image bytes : List ℕ) (address i : ℕ) → length bytes ≤ i → program image address (drop i bytes) ≡ image
+program_end image bytes address i h = rw (drop_of_length-le bytes h, program_nil image address)
 
 -- one byte is a store; past the end there is nothing to store to
 pub program_one : (image : List ℕ) (address new : ℕ) → program image address (new ∷ []) ≡ set image address (bit_and (get_or image address 0) new)
@@ -162,7 +186,7 @@ clears_refl (x ∷ bytes) = clears_cons (and_self x) (clears_refl bytes)
 pub clears_trans : {xs ys zs : List ℕ} → OnlyClears xs ys → OnlyClears ys zs → OnlyClears xs zs
 clears_trans clears_nil clears_nil = clears_nil
 clears_trans (clears_cons {y = x} {x = y} e o) (clears_cons {x = z} f p) =
-    clears_cons (ap (bit_and x) (sym f) ∙ sym (bit_and_assoc x y z) ∙ ap (λ (n : ℕ). bit_and n z) e ∙ f) (clears_trans o p)
+    clears_cons (ap (bit_and x) (sym f) ∙ sym (bit_and_assoc z x y) ∙ ap (λ (n : ℕ). bit_and n z) e ∙ f) (clears_trans o p)
 
 pub bytes_clears : {old new : List ℕ} → Bytes old → OnlyClears old new → Bytes new
 bytes_clears b clears_nil = bytes_nil
@@ -178,7 +202,7 @@ unfolding program
 clears_program [] address bytes = clears_nil
 clears_program (old ∷ image) zero [] = clears_refl (old ∷ image)
 clears_program (old ∷ image) zero (new ∷ bytes) =
-    clears_cons (sym (bit_and_assoc old old new) ∙ ap (λ (n : ℕ). bit_and n new) (and_self old)) (clears_program image zero bytes)
+    clears_cons (sym (bit_and_assoc new old old) ∙ ap (λ (n : ℕ). bit_and n new) (and_self old)) (clears_program image zero bytes)
 clears_program (old ∷ image) (suc address) bytes = clears_cons (and_self old) (clears_program image address bytes)
 
 -- where the new bytes only clear bits of the old, programming is overwriting
@@ -243,9 +267,11 @@ length_units address (a ∷ b ∷ c ∷ []) = length_tail (unit address (a ∷ b
 length_units address (a ∷ b ∷ c ∷ d ∷ bytes) =
     rw (four_more (length bytes), four_suc (length bytes / 4), suc-add) (ap suc (length_units (address + 4) bytes))
 
--- wherever the write goes
-pub length-units_at : (a b : ℕ) (bytes : List ℕ) → length (units a bytes) ≡ length (units b bytes)
-length-units_at a b bytes = length_units a bytes ∙ sym (length_units b bytes)
+-- with the tail as `as_chunks` gives it
+pub length_units_tail : (address : ℕ) (bytes : List ℕ) {tail : List ℕ} → tail ≡ drop (length bytes / 4 * 4) bytes → length (units address bytes) ≡ length bytes / 4 + cond (all_ones tail) 0 1
+length_units_tail address bytes e =
+    let order : length bytes / 4 * 4 ≡ 4 * (length bytes / 4) = omega arith in
+    length_units address bytes ∙ ap (λ (tail : List ℕ). length bytes / 4 + cond (all_ones tail) 0 1) (sym (e ∙ ap (λ (n : ℕ). drop n bytes) order))
 
 -- without a tail
 pub length-units_whole : (address n : ℕ) (bytes : List ℕ) → length bytes ≡ 4 * n → length (units address bytes) ≡ n
@@ -375,6 +401,17 @@ pub run_take_units : {image : List ℕ} (n address : ℕ) (bytes : List ℕ) →
     → run (take n (units address bytes)) image ≡ program image address (take (4 * n) bytes)
 run_take_units {image} n address bytes b =
     ap (λ (plan : List Unit4). run plan image) (take_units n address bytes) ∙ run_units address (take (4 * n) bytes) b
+
+-- and so does the write of as many bytes as they have, or of all where they have more
+pub run_within : (image bytes : List ℕ) (address budget end : ℕ) → ((i : ℕ) → get_or image i 0 < 256) → end ≡ min (length bytes) (4 * budget)
+    → program image address (take end bytes) ≡ run (take budget (units address bytes)) image
+run_within image bytes address budget end h e =
+    ap (program image address) (ap (λ (n : ℕ). take n bytes) e ∙ take_min (dec_le (length bytes) (4 * budget)))
+    ∙ sym (run_take_units budget address bytes (bytes_of_get_d image (λ i _. h i)))
+  where
+    take_min : Dec (length bytes ≤ 4 * budget) → take (min (length bytes) (4 * budget)) bytes ≡ take (4 * budget) bytes
+    take_min (yes h) = take_all (min (length bytes) (4 * budget)) bytes (omega arith) ∙ sym (take_all (4 * budget) bytes h)
+    take_min (no h) = let e : min (length bytes) (4 * budget) ≡ 4 * budget = omega arith in rw e
 
 -- a write onto n erased bytes
 pub run-units_erased : {bytes : List ℕ} (n : ℕ) (front rest : List ℕ) → Bytes (front ++ (replicate n 0xFF ++ rest)) → Bytes bytes → length bytes ≤ n

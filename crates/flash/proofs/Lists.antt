@@ -2,15 +2,14 @@
 --
 -- In order: parts of lists; bytes below 256; two tests, and a test of each element; numbers, and their bits.
 -- Nothing here speaks of a page.
-use mathlib.Core.Path.{◌≡◌, refl, sym, ap, ap₂, ◌∙◌}
+use mathlib.Core.Path.{◌≡◌, refl, sym, ap, ◌∙◌}
 use mathlib.Core.Bool.{Bool, true, false, ◌&&◌, ◌||◌, false≢true, and_assoc}
 use mathlib.Core.List.{List, [], ◌∷◌, ◌++◌}
-use Prim.Native.Nat.{ℕ, zero, suc, ◌≤◌, ◌<◌, ◌+◌, ◌-◌, ◌*◌, ◌/◌, ◌%◌, ◌^◌, min, zero-le, suc-le-suc}
+use Prim.Native.Nat.{ℕ, zero, suc, ◌≤◌, ◌<◌, ◌+◌, ◌-◌, ◌*◌, ◌/◌, ◌^◌, zero-le, suc-le-suc}
 use native.Mathlib.Nat.{mod-eq_of_lt, zero-add, suc-add, pow-succ', sub-zero}
 use native.Mathlib.Numerals.{add-one}
 use native.Mathlib.Omega.{arith}
-use lib.Arith.{bin_ind}
-use lib.Bits.{bit_and, and_mask, and_step}
+use lib.Bits.{bit_and, and_mask}
 use lib.ListN.{length, take, drop, get_or, set, replicate, drop_of_length-le}
 use lib.Pow.{pow-add}
 use lib.Seq.{take-nil, drop-cons, paste-suc}
@@ -110,21 +109,3 @@ pow_four (suc k) =
 
 pub and_ones : (byte : ℕ) → byte < 256 → bit_and byte 0xFF ≡ byte
 and_ones byte h = and_mask byte 8 ∙ mod-eq_of_lt h
-
-and_half : (a b : ℕ) → bit_and a b / 2 ≡ bit_and (a / 2) (b / 2)
-and_half a b = omega (arith, and_step a b)
-
-and_odd : (a b : ℕ) → bit_and a b % 2 ≡ min (a % 2) (b % 2)
-and_odd a b = omega (arith, and_step a b)
-
-min_assoc : (a b c : ℕ) → min (min a b) c ≡ min a (min b c)
-min_assoc a b c = omega arith
-
-pub bit_and_assoc : (a b c : ℕ) → bit_and (bit_and a b) c ≡ bit_and a (bit_and b c)
-bit_and_assoc a =
-    bin_ind (λ (n : ℕ). (b c : ℕ) → bit_and (bit_and n b) c ≡ bit_and n (bit_and b c)) (λ b c. refl)
-    (λ n half b c. and_step (bit_and n b) c
-    ∙ ap₂ (λ (x y : ℕ). x * 2 + y)
-    (ap (λ (x : ℕ). bit_and x (c / 2)) (and_half n b) ∙ half (b / 2) (c / 2) ∙ ap (bit_and (n / 2)) (sym (and_half b c)))
-    (ap (λ (x : ℕ). min x (c % 2)) (and_odd n b) ∙ min_assoc (n % 2) (b % 2) (c % 2) ∙ ap (min (n % 2)) (sym (and_odd b c)))
-    ∙ sym (and_step n (bit_and b c))) a
