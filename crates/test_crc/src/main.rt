@@ -3,19 +3,17 @@
 // The file `stdout` holds the CRCs of the same bytes by zlib: a CRC that differs is a line that differs.
 #![tactic(auto)]
 
-ghost use Rattle.std.specs.Prelude.{◌≡◌, ◌≤◌, length};
+ghost use Rattle.std.specs.Prelude.{◌≤◌, length};
 
 use std::io;
 
 // 4,000 bytes: the second byte of each number that follows 1 by `75 * x + 74` modulo 65,537.
-fn sample() -> [u8; 4000]
-    ensures { 4000 ≡ length result }
-{
-    let mut bytes = [0u8; 4000];
+fn sample() -> [u8; 4000] {
+    let mut bytes = [0; 4000];
     let mut state: u32 = 1;
-    for i in 0..4000usize {
+    for byte in &mut bytes {
         state = (75 * state + 74) % 65537;
-        bytes[i] = (state / 256 % 256) as u8;
+        *byte = (state / 256 % 256) as u8;
     }
     bytes
 }
@@ -36,7 +34,7 @@ fn print_first(rt: &impl Print, bytes: &[u8], count: usize) -> io::Result<()>
 fn print_short(rt: &impl Print, bytes: &[u8]) -> io::Result<()>
     requires { 40 ≤ length bytes.now }
 {
-    for count in 0..41usize {
+    for count in 0..=40 {
         print_first(rt, bytes, count)?;
     }
     Ok(())

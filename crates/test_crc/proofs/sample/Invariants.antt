@@ -1,8 +1,6 @@
--- `test_crc::sample` is safe: the state stays below 65,537, and the array keeps its length.
-use mathlib.Core.Path.{◌≡◌}
-use Prim.Native.Nat.{◌<◌}
-use lib.ListN.{length}
+-- `test_crc::sample` is safe: the state stays below 65,537.
+use Rattle.std.proofs.Common.{◌<◌}
 use Rattle.test_crc.proofs.sample.Given as goal
 
-abbrev pub invariant-loop-i : goal.invariant-loop-i
-invariant-loop-i l = (4000 ≡ length l.bytes) × (l.state < 65537)
+abbrev pub invariant-loop-byte : goal.invariant-loop-byte
+invariant-loop-byte l = l.state < 65537
