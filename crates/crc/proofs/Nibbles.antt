@@ -1,4 +1,4 @@
--- The nibbles that the code looks up are `shifts` of their values: each of the sixteen, in each of the sixteen rows, computed.
+-- The nibbles that the code looks up are `shifts` of their values: each of the sixteen, after each number of shifts, computed.
 use Rattle.std.proofs.Common.{◌≡◌, ℕ, ◌+◌, ◌*◌, ◌/◌, ◌%◌, ◌-◌, ◌≤◌, ◌<◌, List, [], get_or, map, refl, sym, ap, ◌∙◌, arith, zero-add}
 use Rattle.std.specs.Int.Bits.{bit_xor, xor_assoc, xor_comm}
 use Rattle.std.specs.List.{range_with_len}
@@ -11,22 +11,22 @@ use Rattle.crc_tables.specs.Nibble.{nibbles, nibble}
 abbrev after : ℕ → List ℕ
 after n = map (shifts n) (range_with_len 0 16)
 
--- each row's
-abbrev each_row : (ℕ → List ℕ) → List (List ℕ)
-each_row row = map (λ (k : ℕ). row (4 * k + 4)) (range_with_len 0 16)
+-- after 3, 4, .., 64 shifts
+abbrev each : (ℕ → List ℕ) → List (List ℕ)
+each row = map row (range_with_len 3 62)
 
-rows : each_row nibbles ≡ each_row after
+computed : each nibbles ≡ each after
 unfolding shift shifts
-rows = refl
+computed = refl
 
-row_at : (row : ℕ → List ℕ) (k : ℕ) → k < 16 → get_or (each_row row) k [] ≡ row (4 * k + 4)
-row_at row k h = get_or-map-range_with_len (λ (k : ℕ). row (4 * k + 4)) 0 16 k k [] h (zero-add k)
+each_at : (row : ℕ → List ℕ) (n : ℕ) → 3 ≤ n → n ≤ 64 → get_or (each row) (n - 3) [] ≡ row n
+each_at row n p q = get_or-map-range_with_len row 3 62 (n - 3) n [] (omega arith) (omega arith)
 
-pub nibble_shifts : (row v : ℕ) → row < 16 → v < 16 → nibble (4 * row + 4) v ≡ shifts (4 * row + 4) v
-nibble_shifts row v p q =
-    ap (λ (l : List ℕ). get_or l v 0)
-    (sym (row_at nibbles row p) ∙ ap (λ (table : List (List ℕ)). get_or table row []) rows ∙ row_at after row p)
-    ∙ get_or-map-range_with_len (shifts (4 * row + 4)) 0 16 v v 0 q (zero-add v)
+pub nibble_shifts : (n v : ℕ) → 3 ≤ n → n ≤ 64 → v < 16 → nibble n v ≡ shifts n v
+nibble_shifts n v p q h =
+    ap (λ (row : List ℕ). get_or row v 0)
+    (sym (each_at nibbles n p q) ∙ ap (λ (rows : List (List ℕ)). get_or rows (n - 3) []) computed ∙ each_at after n p q)
+    ∙ get_or-map-range_with_len (shifts n) 0 16 v v 0 h (zero-add v)
 
 -- a turn of the loop: the low nibble of the rest is looked up, and what is left has four shifts less to go
 pub shift_turn : (looked_up row rest : ℕ) → 0 < row → row ≤ 16
@@ -39,6 +39,6 @@ shift_turn looked_up row rest p q =
     xor_assoc looked_up low high
     ∙ ap (bit_xor looked_up)
     (xor_comm low high
-    ∙ ap (bit_xor high) (nibble_shifts (row - 1) (rest % 16) (omega arith) (omega arith) ∙ ap (λ (n : ℕ). shifts n (rest % 16)) four)
+    ∙ ap (bit_xor high) (nibble_shifts (4 * (row - 1) + 4) (rest % 16) (omega arith) (omega arith) (omega arith) ∙ ap (λ (n : ℕ). shifts n (rest % 16)) four)
     ∙ sym (shifts_digit 4 (4 * (row - 1)) rest)
     ∙ ap (λ (n : ℕ). shifts n rest) more)
