@@ -5,7 +5,7 @@ use Prim.Native.Nat.{ℕ, zero, suc, ◌+◌, ◌*◌}
 use native.Mathlib.Numerals.{add-one}
 use native.Mathlib.Nat.{add-zero}
 use native.Mathlib.Omega.{arith}
-use lib.ListN.{length, take, replicate, replicate-append-replicate}
+use lib.ListN.{length, replicate, replicate-append-replicate}
 use Rattle.flash.specs.Flash.{Unit4, unit, units, run}
 use Rattle.flash.proofs.Laws.{run_append}
 use Rattle.sector.specs.Layout.{entry_size, entry_address}
@@ -35,11 +35,6 @@ zeros_suc i n =
     ∙ ap (units (entry_address i)) (sym (replicate-append-replicate entry_size (entry_size * n) 0))
     ∙ units_append 8 (entry_address i) (replicate entry_size 0) (replicate (entry_size * n) 0) refl
     ∙ ap (λ (m : ℕ). units (entry_address i) (replicate entry_size 0) ++ units m (replicate (entry_size * n) 0)) next
-
--- an entry has eight units
-pub take_zeros : (address : ℕ) → take 8 (units address (replicate entry_size 0)) ≡ units address (replicate entry_size 0)
-unfolding units
-take_zeros address = refl
 
 -- a loop's turn: an entry zeroed, and then those after it
 pub run_zeros : (i n : ℕ) (image : List ℕ) {after : List ℕ} → after ≡ run (units (entry_address i) (replicate entry_size 0)) image

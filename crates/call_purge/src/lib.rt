@@ -12,6 +12,7 @@ use sector::{ENTRIES_PER_PAGE, Refusal, SECTOR_SIZE, layout};
 const UNITS: usize = 8;
 
 // Programs an entry's bytes to zero.
+#[tactic(auto, unfolding(flash::specs::Flash::units))]
 pub fn zero_entry(image: &mut [u8], index: usize)
     requires { (length image.old ≡ sector_size) × (index < entries_per_page) }
     ensures { image.new ≡ run (units (entry_address index) (replicate entry_size 0)) image.old }

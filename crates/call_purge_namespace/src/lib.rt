@@ -18,15 +18,18 @@ struct Step {
     behind: usize,
 }
 
+// An entry that stays as it is, alone.
+const STAYS: Step = Step {
+    zeroed: false,
+    behind: 0,
+};
+
 // The step over an entry that may head an item: with its span where it loads, else by one.
 fn step_over(entry: [u8; 32], zeroed: bool) -> Step
     ensures { (result.zeroed ≡ (loads entry && zeroed)) × (result.behind ≡ behind_header entry) }
 {
     if !sector_item::loads(entry) {
-        return Step {
-            zeroed: false,
-            behind: 0,
-        };
+        return STAYS;
     }
     Step {
         zeroed,
@@ -40,10 +43,7 @@ fn step_at(state: EntryMapState, entry: [u8; 32], namespace: u8) -> Step
     match state {
         EntryMapState::Written => step_over(entry, false),
         EntryMapState::Erased => step_over(entry, entry[0] == namespace),
-        EntryMapState::Empty | EntryMapState::Illegal => Step {
-            zeroed: false,
-            behind: 0,
-        },
+        EntryMapState::Empty | EntryMapState::Illegal => STAYS,
     }
 }
 
@@ -53,15 +53,12 @@ fn to_zero(image: &[u8], map: [u8; 32], namespace: u8) -> [bool; 126]
     ensures { result ≡ to_zero namespace zero false (states_of map) (entries_of image.now) }
 {
     let mut marks = [false; 126];
-    let mut step = Step {
-        zeroed: false,
-        behind: 0,
-    };
-    for i in 0..126usize {
+    let mut step = STAYS;
+    for (i, mark) in marks.iter_mut().enumerate() {
         step = if step.behind > 0 {
             Step {
-                zeroed: step.zeroed,
                 behind: step.behind - 1,
+                ..step
             }
         } else {
             step_at(
@@ -70,24 +67,24 @@ fn to_zero(image: &[u8], map: [u8; 32], namespace: u8) -> [bool; 126]
                 namespace,
             )
         };
-        marks[i] = step.zeroed;
+        *mark = step.zeroed;
     }
     marks
 }
 
 // Programs the entries so marked to zero.
-fn zero_marked(image: &mut [u8], marks: [bool; 126])
+fn zero_marked(image: &mut [u8], marks: &[bool; 126])
     requires { length image.old ≡ sector_size }
-    ensures { image.new ≡ run (zero_units 0 marks) image.old }
+    ensures { image.new ≡ run (zero_units 0 marks.now) image.old }
 {
-    for i in 0..126usize {
-        if marks[i] {
+    for (i, marked) in marks.iter().enumerate() {
+        if *marked {
             call_purge::zero_entry(image, i);
         }
     }
 }
 
-// Zeroes the Erased items of a namespace (`ThinPage::purge_erased_for_namespace`); the record is read alone.
+// Zeroes the Erased items of a namespace (`ThinPage::purge_erased_for_namespace`); the record is only read.
 //
 // Refuses, in this order: BadImage, BadRecord; in any state. Which entries to zero is found out first. The Rust zeroes as it
 // walks. It never comes back to an entry, so it reads the same items.
@@ -106,6 +103,6 @@ pub fn purge_erased_for_namespace(
         return Err(Refusal::BadRecord);
     }
     let marks = to_zero(image, page.map, namespace);
-    zero_marked(image, marks);
+    zero_marked(image, &marks);
     Ok(())
 }

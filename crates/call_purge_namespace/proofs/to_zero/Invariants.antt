@@ -2,8 +2,8 @@
 use mathlib.Core.Path.{◌≡◌}
 use mathlib.Core.Bool.{Bool, false}
 use mathlib.Core.List.{List, ◌++◌}
-use Prim.Native.Nat.{ℕ, ◌+◌, ◌-◌, ◌≤◌}
-use lib.ListN.{length, take, drop}
+use Prim.Native.Nat.{ℕ}
+use lib.ListN.{take, drop}
 use Rattle.sector.specs.Layout.{entries_of}
 use Rattle.sector.specs.Map.{states_of}
 use Rattle.call_purge_namespace.specs.PurgeNamespace.{to_zero}
@@ -16,5 +16,4 @@ walk image map namespace step i = to_zero namespace step.behind step.zeroed (dro
 
 abbrev pub invariant-loop-i : goal.invariant-loop-i
 invariant-loop-i l =
-    (length l.marks ≡ 126) × (l.i ≤ 126)
-    × (take l.i l.marks ++ walk l.image l.map l.namespace l.step l.i ≡ to_zero l.namespace 0 false (states_of l.map) (entries_of l.image))
+    take l.i l.mark-items ++ walk l.image l.map l.namespace l.step l.i ≡ to_zero l.namespace 0 false (states_of l.map) (entries_of l.image)

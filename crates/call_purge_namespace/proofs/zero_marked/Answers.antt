@@ -2,36 +2,31 @@
 use mathlib.Core.Path.{◌≡◌, sym, ap, ◌∙◌}
 use mathlib.Core.Bool.{Bool, false, cond}
 use mathlib.Core.List.{List, []}
-use Prim.Native.Nat.{◌-◌}
 use native.Mathlib.Omega.{arith}
-use lib.ListN.{length, drop, get_or, replicate, drop_of_length-le}
+use lib.ListN.{drop, get_or, replicate, drop_of_length-le}
 use Rattle.flash.specs.Flash.{units, run}
-use Rattle.flash.proofs.Laws.{length_run}
 use Rattle.sector.specs.Layout.{entry_size, entry_address}
 use Rattle.call_purge_namespace.specs.PurgeNamespace.{zero_units}
 use Rattle.call_purge_namespace.proofs.Laws.{run_marked}
 use Rattle.call_purge_namespace.proofs.zero_marked.Goals as goal
-use Rattle.call_purge_namespace.proofs.zero_marked.Goals.{then-marks-i, else-marks-i}
+use Rattle.call_purge_namespace.proofs.zero_marked.Goals.{then-marked, else-marked}
 
 pub loop-i-preserved : goal.loop-i-preserved
 unfolding run
 loop-i-preserved c =
-    let turn : let at = c.loop-i in let marked = get_or c.args.marks at.i false in c.if-marks-i.image ≡ run (cond marked (units (entry_address at.i) (replicate entry_size 0)) []) at.image =
-    elim c.if-marks-i.branch [
-      | then-marks-i w ↦ w.image-is ∙ w.zero_entry.ensures ∙ rw w.if-marks-i.true
-      | else-marks-i w ↦ w.image-is ∙ rw w.if-marks-i.false
-    ] in
     let at = c.loop-i in
-    let marks = c.args.marks in (
-      ap length turn ∙ length_run (cond (get_or marks at.i false) (units (entry_address at.i) (replicate entry_size 0)) []) at.image ∙ at.invariant.0,
-      omega arith,
-      run_marked marks at.i at.image (omega arith) turn ∙ at.invariant.2,
-    )
+    let marks = c.args.marks.now in
+    let turn : c.if-marked.image ≡ run (cond (get_or marks at.i false) (units (entry_address at.i) (replicate entry_size 0)) []) at.image =
+    elim c.if-marked.branch [
+      | then-marked w ↦ w.image-is ∙ w.zero_entry.ensures ∙ rw w.if-marked.true
+      | else-marked w ↦ w.image-is ∙ rw w.if-marked.false
+    ] in
+    run_marked marks at.i at.image (omega arith) turn ∙ at.invariant
 
 pub returns : goal.returns
 unfolding zero_units run
 returns c =
     let at = c.loop-i in
-    let marks = c.args.marks in
+    let marks = c.args.marks.now in
     let none : drop at.i marks ≡ [] = drop_of_length-le marks {i = at.i} (omega arith) in
-    sym (ap (λ (rest : List Bool). run (zero_units at.i rest) at.image) none) ∙ at.invariant.2
+    sym (ap (λ (rest : List Bool). run (zero_units at.i rest) at.image) none) ∙ at.invariant
