@@ -40,13 +40,6 @@ fn program_bytes(image: &mut [u8], address: usize, bytes: &[u8])
     }
 }
 
-// What is left of a budget after some units.
-pub fn remaining(budget: usize, units: usize) -> usize
-    ensures { result ≡ budget - units }
-{
-    budget.saturating_sub(units)
-}
-
 // Programs the bytes at an address (`write_aligned`), at most a budget of their units, and returns how many units they
 // have in all: a budget below that is a stop.
 //

@@ -116,7 +116,7 @@ pub fn program_changes(image: &mut [u8], old: [u8; 32], new: [u8; 32], budget: u
 {
     let mut done: usize = 0;
     for unit in 0..8usize {
-        done += program_unit(image, old, new, unit, flash::remaining(budget, done));
+        done += program_unit(image, old, new, unit, budget.saturating_sub(done));
     }
     done
 }

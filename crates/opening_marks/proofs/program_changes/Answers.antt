@@ -18,7 +18,7 @@ more c =
     let programmed = c.program_unit-done.ensures in
     rw (add-one unit, changed_more 0 unit args.old args.new, zero-add unit)
     (run_both args.budget (changed_units 0 unit args.old args.new) (changed_unit unit args.old args.new) args.image.now
-    c.loop-unit.invariant.2 programmed.total c.remaining.ensures c.loop-unit.invariant.3 programmed.image)
+    c.loop-unit.invariant.2 programmed.total c.saturating_sub.ensures c.loop-unit.invariant.3 programmed.image)
 
 pub loop-unit-init : goal.loop-unit-init
 unfolding changed_units run
