@@ -2,17 +2,17 @@
 -- Not here: what a run of marks does to each state (Marks).
 use mathlib.Core.Path.{◌≡◌, refl, sym, ap, ◌∙◌}
 use mathlib.Core.Bool.{Bool, true, false, ◌&&◌, cond, and-false, false≢true}
-use mathlib.Core.List.{List, [], ◌∷◌, ◌++◌, append-nil}
+use mathlib.Core.List.{List, [], ◌∷◌, ◌++◌}
 use Prim.Native.Nat.{ℕ, zero, suc, ◌+◌, ◌*◌, ◌/◌, ◌%◌, ◌^◌, ◌<◌, ◌≤◌}
 use native.Mathlib.Nat.{le_of_suc-le-suc, not-suc-le-zero, div-one, div-lt_iff_lt-mul, pow-suc}
 use native.Mathlib.Numerals.{add-one}
 use native.Mathlib.Omega.{arith}
-use lib.ListN.{length, get_or, take, drop, length-append, length-take, length-drop, length-set, drop_of_length-le}
+use lib.ListN.{length, get_or, take, drop, length-append, length-take, length-drop, length-set}
 use lib.Dec.{eqb}
 use lib.Pointwise.{pointwise}
-use lib.Seq.{drop-cons, drop-drop, take-take, take_at, get_or-take}
+use lib.Seq.{drop-cons, drop-drop, take-take, get_or-take}
 use borrow.Author.Tests.{ne_eqb}
-pub use Rattle.flash.proofs.Lists.{drop_replicate, copied_next, pow_four}
+pub use Rattle.flash.proofs.Lists.{drop_replicate, copied_next}
 use Rattle.flash.proofs.Lists.{Bytes, bytes_nil, bytes_cons}
 use Rattle.std.specs.Prelude.{Ok, Err, is_ok}
 use Rattle.sector.specs.declared.Refusal.{Refusal}
@@ -111,18 +111,10 @@ field-entry_at image i offset size h =
     field_take offset size entry_size (drop (entry_address i) image) h
     ∙ ap (take size) (drop-drop offset (entry_address i) image)
 
--- ---- bytes laid over others, as `bytes::put` leaves them; bytes repeated; bytes copied one at a time
+-- ---- bytes laid over others, as `bytes::put` leaves them
 
 abbrev pub over : List ℕ → ℕ → List ℕ → List ℕ
 over out offset bytes = take offset out ++ (bytes ++ drop (offset + length bytes) out)
-
--- two runs of bytes, one after the other, fill what they are laid over
-pub over_both : (out first second : List ℕ) (n : ℕ) → length first ≡ n → length out ≡ n + length second
-    → over (over out 0 first) n second ≡ first ++ second
-over_both out first second n e h =
-    let rest = drop (0 + length first) out in
-    let fits : length (first ++ rest) ≤ n + length second = simp (length-append, length-drop) (omega arith) in
-    rw (take_at first rest n e, drop_of_length-le (first ++ rest) fits, append-nil second)
 
 -- ---- checks
 

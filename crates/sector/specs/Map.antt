@@ -1,7 +1,7 @@
 -- The entry map (01, 'The sector'): two bits an entry, entry i at bit 2 * (i mod 4) of map byte i / 4.
 --
 -- In order: the states and their bits; the state of an entry; all 126 states; what `get_entry_state` and `get_entry_statistics` answer; setting a range.
-use Rattle.std.specs.Prelude.{Bool, cond, List, [], ◌∷◌, ℕ, zero, suc, ◌+◌, ◌-◌, ◌*◌, ◌/◌, ◌%◌, ◌^◌, eqb, ltb, take, get_or, set, Err}
+use Rattle.std.specs.Prelude.{Bool, cond, List, [], ◌∷◌, ℕ, zero, suc, ◌+◌, ◌-◌, ◌*◌, ◌/◌, ◌%◌, ◌^◌, ◌<◌, eqb, ltb, take, get_or, set, Err}
 use Rattle.std.specs.Int.Bits.{bit_and}
 use Rattle.flash.specs.Flash.{Unit4, units}
 use Rattle.sector.specs.Answers.{Answer, Done}
@@ -88,6 +88,15 @@ statistics map =
       erased = count_in Erased (states_of map);
       illegal = count_in Illegal (states_of map);
     }
+
+-- the counts of two parts together
+abbrev pub counts_sum : Statistics → Statistics → Statistics
+counts_sum a b =
+    record { empty = a.empty + b.empty; written = a.written + b.written; erased = a.erased + b.erased; illegal = a.illegal + b.illegal }
+
+-- the sums fit a `u32`
+abbrev pub CountsFit : Statistics → Statistics → Type 0
+CountsFit a b = (a.empty + b.empty < 2 ^ 32) × (a.written + b.written < 2 ^ 32) × (a.erased + b.erased < 2 ^ 32) × (a.illegal + b.illegal < 2 ^ 32)
 
 -- ---- setting a range
 

@@ -6,6 +6,7 @@
 
 pub mod answers;
 pub mod bytes;
+pub mod counts;
 pub mod layout;
 pub mod states;
 
@@ -28,6 +29,7 @@ pub const VERSION: u8 = 0xFE;
 // The value that every CRC of a page starts from.
 pub const CRC_START: u32 = 0xFFFFFFFF;
 
+// The states' words. They are constants and no discriminants of `PageState`, since a `match` takes no cast as a pattern.
 pub const PAGE_STATE_UNINITIALIZED: u32 = 0xFFFFFFFF;
 
 pub const PAGE_STATE_ACTIVE: u32 = 0xFFFFFFFE;
@@ -76,8 +78,8 @@ pub enum ItemType {
     Any = 0xFF,
 }
 
-// What a type byte decides: the type that it names, a primitive's width (0 for other types), and whether a
-// payload lies after the item's header.
+// What a type byte decides: the type that it names, a primitive's width, and whether a payload lies after the
+// item's header. The width of other types is 0 and no `None`: `width_of` and `kind_of` of specs/ have it so.
 #[derive(Clone, Copy, PartialEq, Eq)]
 pub struct Kind {
     pub named: ItemType,

@@ -1,10 +1,10 @@
 -- Laws of the words of a map (specs/Words.antt): the ones of a masked word are the entries in that state.
 --
--- In order: a word by its lowest entry; the masked word by it; one entry; any number of entries; the bytes of a word; the words of a map, and sums over
--- them.
+-- In order: a word by its lowest entry; the masked word by it; one entry; any number of entries; the bytes of a word; the words of a map; the mask of a
+-- state at a pair.
 use mathlib.Core.Path.{◌≡◌, refl, sym, ap, ap₂, ◌∙◌}
 use mathlib.Core.Bool.{Bool, true, false, cond}
-use mathlib.Core.List.{List, [], ◌∷◌, ◌++◌}
+use mathlib.Core.List.{List, ◌∷◌, ◌++◌}
 use Prim.Native.Nat.{ℕ, zero, suc, ◌+◌, ◌*◌, ◌/◌, ◌%◌, ◌^◌, ◌<◌, ◌≤◌}
 use native.Mathlib.Nat.{add_comm, lt_of_le_of_lt}
 use native.Mathlib.Omega.{arith}
@@ -16,11 +16,10 @@ use lib.Seq.{take_all, drop-drop}
 use Rattle.flash.proofs.Laws.{four_suc, Bytes, bytes_nil, bytes_cons}
 use Rattle.sector.specs.declared.EntryMapState.{EntryMapState}
 use Rattle.sector.specs.declared.EntryMapState.TheVariants.{Empty, Written, Erased, Illegal}
-use Rattle.sector.specs.declared.Statistics.{Statistics}
 use Rattle.sector.specs.Layout.{number, field}
-use Rattle.sector.specs.Map.{state_of_bits, same_state, unpack, states_of, count_in}
+use Rattle.sector.specs.Map.{state_of_bits, same_state, unpack, states_of, count_in, statistics, counts_sum}
 use Rattle.sector.proofs.Marks.{unpack_append, count_in-append}
-use Rattle.sector_map.specs.Words.{word_states, entry_mask, low_bits, high_bits, masked}
+use Rattle.sector_map.specs.Words.{word_states, entry_mask, low_bits, high_bits, masked, word_statistics}
 
 -- ---- a word by its lowest entry
 
@@ -141,13 +140,19 @@ ones_masked s (suc k) word =
     ∙ ap₂ (λ (x y : ℕ). x + y) (ones_masked s k rest) (one_entry s bits small)
     ∙ add_comm (count_in s (word_states k rest)) (cond (same_state s (state_of_bits bits)) 1 0)
 
--- no word has more than 64
-pub masked_small : (s : EntryMapState) (mask word : ℕ) → mask < 2 ^ 64 → ones (masked s mask word) ≤ 64
+masked_small : (s : EntryMapState) (mask word : ℕ) → mask < 2 ^ 64 → ones (masked s mask word) ≤ 64
 masked_small s mask word h = ones-le 64 (masked s mask word) (rw (masked_sides s mask word) (and_lt 64 _ _ (side_small (upper s) (and_le_r (word / 2) mask)) (side_small (lower s) (and_le_r word mask))))
   where
     side_small : (kept : Bool) {bits : ℕ} → bits ≤ mask → side kept mask bits < 2 ^ 64
     side_small true l = lt_of_le_of_lt l h
     side_small false {bits} l = xor_lt 64 bits mask (lt_of_le_of_lt l h) h
+
+-- no word has more than 64 entries in a state
+pub word_counts_small : (mask word : ℕ) → mask < 2 ^ 64
+    → ((word_statistics mask word).empty ≤ 64) × ((word_statistics mask word).written ≤ 64) × ((word_statistics mask word).erased ≤ 64)
+    × ((word_statistics mask word).illegal ≤ 64)
+unfolding word_statistics
+word_counts_small mask word h = (masked_small Empty mask word h, masked_small Written mask word h, masked_small Erased mask word h, masked_small Illegal mask word h)
 
 -- ---- the bytes of a word
 
@@ -169,15 +174,6 @@ word_bytes (bytes_cons {byte} {bytes} h b) =
     (ap
     (λ (states : List EntryMapState). state_of_bits (byte % 4) ∷ state_of_bits (byte / 4 % 4) ∷ state_of_bits (byte / 16 % 4) ∷ state_of_bits (byte / 64 % 4) ∷ states)
     (word_bytes b))
-
--- the number of bytes in two parts, the first of four
-pub number_append : (xs ys : List ℕ) → length xs ≡ 4 → number (xs ++ ys) ≡ number xs + 0x1_0000_0000 * number ys
-number_append (a ∷ b ∷ c ∷ d ∷ []) ys h = omega arith
-number_append [] ys h = absurd (omega arith)
-number_append (a ∷ []) ys h = absurd (omega arith)
-number_append (a ∷ b ∷ []) ys h = absurd (omega arith)
-number_append (a ∷ b ∷ c ∷ []) ys h = absurd (omega arith)
-number_append (a ∷ b ∷ c ∷ d ∷ e ∷ xs) ys h = absurd (omega arith)
 
 -- ---- the words of a map
 
@@ -224,14 +220,19 @@ module _ (map : List ℕ) (long : length map ≡ 32) (a b c d : ℕ) (ea : word_
       (count_in-append s (word_states 32 b) _ ∙ ap (λ (n : ℕ). count_in s (word_states 32 b) + n) (count_in-append s (word_states 32 c) (word_states 30 d))) in
       omega (arith, sums, ones_masked s 32 a, ones_masked s 32 b, ones_masked s 32 c, ones_masked s 30 d)
 
--- ---- sums over the words
+  -- the counts of the page are those of its four words, put together
+  pub statistics_words : statistics map
+      ≡ counts_sum (counts_sum (counts_sum (word_statistics (entry_mask 32) a) (word_statistics (entry_mask 32) b)) (word_statistics (entry_mask 32) c))
+      (word_statistics (entry_mask 30) d)
+  unfolding statistics word_statistics
+  statistics_words = rw (count_words Empty, count_words Written, count_words Erased, count_words Illegal)
 
-pub four_sums : {a b c d p q r s : ℕ} → a ≡ p → b ≡ q → c ≡ r → d ≡ s → a + b + c + d ≡ p + q + r + s
-four_sums ea eb ec ed = ap₂ add (ap₂ add (ap₂ add ea eb) ec) ed
-  where
-    add : ℕ → ℕ → ℕ
-    add m n = m + n
+-- ---- the mask of a state at a pair
 
-pub same_counts : {e w r i e' w' r' i' : ℕ} → e ≡ e' → w ≡ w' → r ≡ r' → i ≡ i'
-    → ◌≡◌ {A = Statistics} (record { empty = e; written = w; erased = r; illegal = i }) (record { empty = e'; written = w'; erased = r'; illegal = i' })
-same_counts ee ew er ei = rw (ee, ew, er, ei)
+-- what a state clears of a pair stays within the byte
+pub shifted : (m k : ℕ) → m ≤ 3 → k < 4 → m * 2 ^ (2 * k) % 256 ≡ m * 4 ^ k
+shifted m zero h l = omega arith
+shifted m (suc zero) h l = omega arith
+shifted m (suc (suc zero)) h l = omega arith
+shifted m (suc (suc (suc zero))) h l = omega arith
+shifted m (suc (suc (suc (suc k)))) h l = absurd (omega arith)

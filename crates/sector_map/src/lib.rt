@@ -20,12 +20,7 @@ const LAST_MASK: u64 = 0x0555_5555_5555_5555;
 pub fn bits_of(state: EntryMapState) -> u8
     ensures { result ≡ bits_of state }
 {
-    match state {
-        EntryMapState::Empty => 0b11,
-        EntryMapState::Written => 0b10,
-        EntryMapState::Erased => 0b00,
-        EntryMapState::Illegal => 0b01,
-    }
+    state as u8
 }
 
 // Whether an entry in this state is Written.
@@ -36,6 +31,7 @@ pub fn is_written(state: EntryMapState) -> bool
 }
 
 // The state in one of the four pairs of a map byte, the lowest first.
+#[tactic(auto, using(flash::proofs::Lists::pow_four))]
 fn state_of_pair(byte: u8, pair: usize) -> EntryMapState
     requires { pair < 4 }
     ensures { result ≡ state_of_bits (byte / 4 ^ pair % 4) }
@@ -60,6 +56,7 @@ pub fn state_at(map: [u8; 32], index: usize) -> EntryMapState
 //
 // An index over 125 is CorruptedData. The Rust does not check it: at 126 and 127 it reads the last byte's top
 // four bits, which belong to no entry, and from 128 on there is no byte.
+#[tactic(auto, unfolding(sector::specs::Map::entry_state))]
 pub fn get_entry_state(map: [u8; 32], index: usize) -> Result<EntryMapState, Refusal>
     ensures { result ≡ value_where_done (entry_state map index).answer (entry_state map index).state }
 {
@@ -75,15 +72,13 @@ fn word_at(map: &[u8], offset: usize) -> u64
     ensures word { result ≡ number (field offset 8 map.now) }
     ensures entries { word_states 32 result ≡ unpack (field offset 8 map.now) }
 {
-    let low = bytes::number_at(map, offset);
-    let high = bytes::number_at(map, offset + 4);
-    low as u64 + 0x1_0000_0000 * (high as u64)
+    u64::from_le_bytes(bytes::array_of(&map[offset..offset + 8]))
 }
 
 // How many entries of a word are in each state: for each state the word is masked, and the ones are counted.
+#[tactic(auto, unfolding(crate::specs::Words::masked, crate::specs::Words::word_statistics))]
 fn word_statistics(word: u64, mask: u64) -> Statistics
-    ensures counts { result ≡ word_statistics mask word }
-    ensures small { (result.empty ≤ 64) × (result.written ≤ 64) × (result.erased ≤ 64) × (result.illegal ≤ 64) }
+    ensures { result ≡ word_statistics mask word }
 {
     let low = word & mask;
     let high = (word >> 1) & mask;
@@ -95,18 +90,11 @@ fn word_statistics(word: u64, mask: u64) -> Statistics
     }
 }
 
-// The counts of a map's four words together.
-fn sum(first: u32, second: u32, third: u32, last: u32) -> u32
-    requires { (first ≤ 64) × (second ≤ 64) × (third ≤ 64) × (last ≤ 64) }
-    ensures { result ≡ first + second + third + last }
-{
-    first + second + third + last
-}
-
 // How many entries of the page are in each state (`ThinPage::get_entry_statistics`): the four counts add up to
 // 126, by the law `statistics_sum`.
 //
 // A word of 32 entries at a time. The last word has 30: its top four bits belong to no entry, and its mask leaves them out.
+#[tactic(auto, using(crate::proofs::Words::word_counts_small))]
 pub fn get_entry_statistics(map: [u8; 32]) -> Statistics
     ensures { result ≡ statistics map }
 {
@@ -114,15 +102,11 @@ pub fn get_entry_statistics(map: [u8; 32]) -> Statistics
     let second = word_statistics(word_at(&map, 8), MASK);
     let third = word_statistics(word_at(&map, 16), MASK);
     let last = word_statistics(word_at(&map, 24), LAST_MASK);
-    Statistics {
-        empty: sum(first.empty, second.empty, third.empty, last.empty),
-        written: sum(first.written, second.written, third.written, last.written),
-        erased: sum(first.erased, second.erased, third.erased, last.erased),
-        illegal: sum(first.illegal, second.illegal, third.illegal, last.illegal),
-    }
+    first + second + third + last
 }
 
 // A byte of ones but for a state's bits at one of its four pairs.
+#[tactic(auto, using(crate::proofs::Words::shifted))]
 fn mark_mask(state: EntryMapState, pair: usize) -> u8
     requires { pair < 4 }
     ensures { result ≡ mark_mask state pair }
@@ -132,13 +116,16 @@ fn mark_mask(state: EntryMapState, pair: usize) -> u8
 
 // A map in which the bits of `span` entries from `index` on are ANDed with a state's: the part of
 // `ThinPage::set_entry_state_range` that changes the record's map. Programming it is the caller's.
+//
+// By index, since four entries share a byte.
+#[tactic(auto, unfolding(sector::specs::Map::mark_range))]
 pub fn mark_range(map: [u8; 32], state: EntryMapState, index: usize, span: usize) -> [u8; 32]
     requires { index + span ≤ 126 }
     ensures { result ≡ mark_range state index span map }
 {
     let mut out = map;
     for i in index..index + span {
-        out[i / 4] = out[i / 4] & mark_mask(state, i % 4);
+        out[i / 4] &= mark_mask(state, i % 4);
     }
     out
 }
