@@ -105,45 +105,45 @@ is_page_full answer = eqb (number_of answer) 6
 
 -- no check of these answers PageFull
 abbrev answers_other : Check → Bool
-answers_other check = not (is_page_full check.1)
+answers_other check = not (is_page_full (Err check.1))
 
 refusal_other : (checks : List Check) → every answers_other checks ≡ true → is_page_full (refusal checks) ≡ false
 refusal_other [] h = refl
 refusal_other ((true, answer) ∷ checks) h =
-    not-true (is_page_full answer) ((and-eq-true_iff (not (is_page_full answer)) (every answers_other checks)).0 h).0
-refusal_other ((false, answer) ∷ checks) h = refusal_other checks ((and-eq-true_iff (not (is_page_full answer)) (every answers_other checks)).0 h).1
+    not-true (is_page_full (Err answer)) ((and-eq-true_iff (not (is_page_full (Err answer))) (every answers_other checks)).0 h).0
+refusal_other ((false, answer) ∷ checks) h = refusal_other checks ((and-eq-true_iff (not (is_page_full (Err answer))) (every answers_other checks)).0 h).1
 
 module _ (earlier behind : List Check) (others : every answers_other earlier ≡ true) (stopped : Bool) (page new : Page) where
   -- PageFull comes of the later checks
-  full_of_behind : (outcome (earlier ++ behind) stopped page new).answer ≡ PageFull → (accepted earlier ≡ true) × (refusal behind ≡ PageFull)
+  full_of_behind : (outcome (earlier ++ behind) stopped page new).answer ≡ Err PageFull → (accepted earlier ≡ true) × (refusal behind ≡ Err PageFull)
   full_of_behind h = by_tests (accepted (earlier ++ behind)) stopped (accepted earlier) refl refl refl h
     where
       by_tests : (ok s first : Bool) → accepted (earlier ++ behind) ≡ ok → stopped ≡ s → accepted earlier ≡ first
-          → (outcome (earlier ++ behind) stopped page new).answer ≡ PageFull → (accepted earlier ≡ true) × (refusal behind ≡ PageFull)
+          → (outcome (earlier ++ behind) stopped page new).answer ≡ Err PageFull → (accepted earlier ≡ true) × (refusal behind ≡ Err PageFull)
       by_tests true true first a e f h = absurd (false≢true (ap is_page_full (rw (a, e) at h)))
       by_tests true false first a e f h = absurd (false≢true (ap is_page_full (rw (a, e) at h)))
       by_tests false s true a e f h = (f, rw (a, refusal_append earlier behind, f) at h)
       by_tests false s false a e f h =
-          let wrong : refusal earlier ≡ PageFull = (rw (a, refusal_append earlier behind, f) at h) in
+          let wrong : refusal earlier ≡ Err PageFull = (rw (a, refusal_append earlier behind, f) at h) in
           absurd (false≢true (sym (refusal_other earlier others) ∙ ap is_page_full wrong))
 
   -- and is answered where those in front accept
-  behind_full : accepted earlier ≡ true → accepted behind ≡ false → refusal behind ≡ PageFull → (outcome (earlier ++ behind) stopped page new).answer ≡ PageFull
+  behind_full : accepted earlier ≡ true → accepted behind ≡ false → refusal behind ≡ Err PageFull → (outcome (earlier ++ behind) stopped page new).answer ≡ Err PageFull
   behind_full a f h = rw (accepted_append earlier behind, a, f, refusal_append earlier behind, a) h
 
-room_full : (over : Bool) → refusal ((over, PageFull) ∷ []) ≡ PageFull → over ≡ true
+room_full : (over : Bool) → refusal ((over, PageFull) ∷ []) ≡ Err PageFull → over ≡ true
 room_full true h = refl
 room_full false h = absurd (false≢true (ap is_page_full h))
 
-length_full : (long over : Bool) → refusal ((long, ValueTooLong) ∷ (over, PageFull) ∷ []) ≡ PageFull → (long ≡ false) × (over ≡ true)
+length_full : (long over : Bool) → refusal ((long, ValueTooLong) ∷ (over, PageFull) ∷ []) ≡ Err PageFull → (long ≡ false) × (over ≡ true)
 length_full true over h = absurd (false≢true (ap is_page_full h))
 length_full false over h = (refl, room_full over h)
 
 -- of a call whose span is on the page where its earlier checks accept
 room_exactly : (earlier : List Check) → every answers_other earlier ≡ true → (stopped : Bool) (page new : Page) (span : ℕ) → (accepted earlier ≡ true → span ≤ 126)
     → let answer = (outcome (earlier ++ (over_free page span ∷ [])) stopped page new).answer in
-    (answer ≡ PageFull → (accepted earlier ≡ true) × (span ≤ 126) × (free page < span))
-    × (accepted earlier ≡ true → span ≤ 126 → free page < span → answer ≡ PageFull)
+    (answer ≡ Err PageFull → (accepted earlier ≡ true) × (span ≤ 126) × (free page < span))
+    × (accepted earlier ≡ true → span ≤ 126 → free page < span → answer ≡ Err PageFull)
 room_exactly earlier others stopped page new span fits = (
   (λ h.
       let f = full_of_behind earlier (over_free page span ∷ []) others stopped page new h in

@@ -170,10 +170,10 @@ earlier_checks (copied source i) image page =
 abbrev pub PageFullExactly : Type 0
 PageFullExactly =
     (new : PutRequest) (image : List ℕ) (page : Page) (n : ℕ)
-    → (((outcome_of (putting new) image page n).answer ≡ PageFull)
+    → (((outcome_of (putting new) image page n).answer ≡ Err PageFull)
     → (accepted (earlier_checks new image page) ≡ true) × (span_of_new new ≤ entries_per_page) × (free page < span_of_new new))
     × (accepted (earlier_checks new image page) ≡ true → span_of_new new ≤ entries_per_page → free page < span_of_new new
-    → (outcome_of (putting new) image page n).answer ≡ PageFull)
+    → (outcome_of (putting new) image page n).answer ≡ Err PageFull)
 
 -- ---- cleared bits
 
