@@ -1,4 +1,5 @@
 -- `nvs_purge_namespace` meets its contract: a wrong size changes nothing, else the call's answer is handed back with its record.
+use mathlib.Core.Bool.{false}
 use mathlib.Core.Path.{refl}
 use borrow.Author.Rules.{rules}
 use Rattle.call_purge_namespace.specs.PurgeNamespace.{purge_namespace_checks, purge_namespace, purge_namespace_image}
