@@ -7,19 +7,20 @@ mod replay;
 mod show;
 mod tally;
 
+use recorded_file::error::ReplayError;
 use recorded_file::head;
-use recorded_file::head::Head;
+use replay::Replay;
 use std::io;
 
 fn main(rt: HostRuntime) -> io::Result<()> {
     let mut file = rt.reader();
-    match head::read(&mut file)? {
-        Head::Cases(cases) => show::report(&rt, replay::replay(&mut file, cases)?),
-        Head::CutShort => println!(rt;
-            "the file is cut short: its first 16 bytes are not all there"
-        ),
-        Head::Other => {
-            println!(rt; "this is no recorded file of version 1: its first 12 bytes are others")
-        }
+    let cases = match head::read(&mut file)? {
+        Ok(cases) => cases,
+        Err(error) => return println!(rt; "{error}"),
+    };
+    let mut replay = Replay::new(cases);
+    match replay.run(&mut file) {
+        Err(ReplayError::Io(error)) => Err(error),
+        outcome => show::report(&rt, &replay, outcome),
     }
 }

@@ -2,31 +2,20 @@
 ghost use Rattle.std.specs.Prelude.{◌≡◌, true, length, take};
 ghost use Rattle.recorded_file.specs.Buffers.{all_size, changed_size};
 
-use crate::tally;
-use crate::tally::{NONE, Tally};
+use crate::tally::Tally;
+use recorded_calls::call::Call;
 use recorded_file::buffers::{ALL, CHANGED, IMAGE};
-use recorded_file::frame::{Frame, Status};
+use recorded_file::error::ReplayError;
+use recorded_file::frame::Frame;
+use recorded_file::kind::FrameKind;
 use recorded_file::{frame, input};
-use std::io;
 use std::io::Read;
+use std::ops::ControlFlow;
 
 const FRAME_SIZE: usize = 8;
 
 // A file of under 4 MB has no more.
 const MOST_FRAMES: u32 = 500000;
-
-#[derive(Clone, Copy)]
-pub(crate) struct Replayed {
-    pub(crate) status: Status,
-    pub(crate) tally: Tally,
-}
-
-fn same(first: &[u8], second: &[u8]) -> bool
-    ensures yes { result ≡ true → first.now ≡ second.now }
-    ensures no { first.now ≡ second.now → result ≡ true }
-{
-    first == second
-}
 
 // Whether the call left what the file has: the buffers that a call may change are compared.
 fn agrees(all: &[u8], left: &[u8]) -> bool
@@ -34,89 +23,87 @@ fn agrees(all: &[u8], left: &[u8]) -> bool
     ensures yes { result ≡ true → take changed_size all.now ≡ left.now }
     ensures no { take changed_size all.now ≡ left.now → result ≡ true }
 {
-    same(&all[IMAGE..CHANGED], left)
+    &all[IMAGE..CHANGED] == left
 }
 
-fn end<R: Read>(file: &mut R, open: bool) -> io::Result<Status> {
-    if open {
-        return Ok(Status::OutOfOrder);
-    }
-    let mut more = [0u8; 1];
-    if input::read_full(file, &mut more)? {
-        return Ok(Status::MoreBytes);
-    }
-    Ok(Status::Ended)
+#[derive(Drop)]
+pub(crate) struct Replay {
+    // The cases that the file says it has.
+    pub(crate) cases: u64,
+    all: [u8; ALL],
+    // What the last call left of the buffers that it may change.
+    left: [u8; CHANGED],
+    // The call that waits for its compare.
+    open: Option<Call>,
+    pub(crate) tally: Tally,
 }
 
-// A call or a compare.
-fn case(frame: Frame, all: &[u8; ALL], left: &mut [u8; CHANGED], tally: Tally) -> Replayed {
-    let open = tally.open != NONE;
-    if frame.kind == frame::CALL && !open {
-        let status = recorded_calls::run(frame.name, all, left);
-        return Replayed {
-            status,
-            tally: tally.called(frame.name),
-        };
-    }
-    if frame.kind == frame::COMPARE && open {
-        return Replayed {
-            status: Status::Going,
-            tally: tally.compared(agrees(all, left)),
-        };
-    }
-    Replayed {
-        status: Status::OutOfOrder,
-        tally,
-    }
-}
-
-// Reads a frame, and does what it says.
-fn step<R: Read>(
-    file: &mut R,
-    all: &mut [u8; ALL],
-    left: &mut [u8; CHANGED],
-    tally: Tally,
-) -> io::Result<Replayed> {
-    let mut bytes = [0u8; FRAME_SIZE];
-    if !input::read_full(file, &mut bytes)? {
-        return Ok(Replayed {
-            status: Status::CutShort,
-            tally,
-        });
-    }
-    let frame = frame::frame_of(bytes);
-    if frame.kind == frame::END {
-        let status = end(file, tally.open != NONE)?;
-        return Ok(Replayed { status, tally });
-    }
-    if frame.kind == frame::CALL || frame.kind == frame::COMPARE {
-        return Ok(case(frame, all, left, tally));
-    }
-    let status = frame::change(file, all, frame)?;
-    Ok(Replayed { status, tally })
-}
-
-fn is_going(status: Status) -> bool {
-    match status {
-        Status::Going => true,
-        _ => false,
-    }
-}
-
-pub(crate) fn replay<R: Read>(file: &mut R, cases: u32) -> io::Result<Replayed> {
-    let mut all = [0u8; ALL];
-    let mut left = [0u8; CHANGED];
-    let mut now = Replayed {
-        status: Status::Going,
-        tally: tally::start(cases),
-    };
-    let mut turns = MOST_FRAMES;
-    while turns > 0 {
-        now = step(file, &mut all, &mut left, now.tally)?;
-        if !is_going(now.status) {
-            return Ok(now);
+impl Replay {
+    pub(crate) fn new(cases: u32) -> Replay {
+        Replay {
+            cases: cases as u64,
+            all: [0; ALL],
+            left: [0; CHANGED],
+            open: None,
+            tally: Tally::default(),
         }
-        turns -= 1;
     }
-    Ok(now)
+
+    // Up to the end frame, after which nothing may follow.
+    pub(crate) fn run<R: Read>(&mut self, file: &mut R) -> Result<(), ReplayError> {
+        for _ in 0..MOST_FRAMES {
+            if self.step(file)?.is_break() {
+                return Ok(());
+            }
+        }
+        Err(ReplayError::MoreFrames)
+    }
+
+    // Reads a frame, and does what it says. Breaks at the end frame.
+    fn step<R: Read>(&mut self, file: &mut R) -> Result<ControlFlow<()>, ReplayError> {
+        let mut bytes = [0u8; FRAME_SIZE];
+        if !input::read_full(file, &mut bytes)? {
+            return Err(ReplayError::CutShort);
+        }
+        let frame = Frame::from(bytes);
+        match frame.kind {
+            Ok(FrameKind::End) => {
+                self.end(file)?;
+                return Ok(ControlFlow::Break(()));
+            }
+            Ok(FrameKind::Call) => self.call(frame.name)?,
+            Ok(FrameKind::Compare) => self.compare()?,
+            // One of no kind is refused there, after its place.
+            _ => frame::change(file, &mut self.all, frame)?,
+        }
+        Ok(ControlFlow::Continue(()))
+    }
+
+    fn end<R: Read>(&self, file: &mut R) -> Result<(), ReplayError> {
+        if self.open.is_some() {
+            return Err(ReplayError::OutOfOrder);
+        }
+        let mut more = [0u8; 1];
+        if input::read_full(file, &mut more)? {
+            return Err(ReplayError::MoreBytes);
+        }
+        if self.tally.compared != self.cases {
+            return Err(ReplayError::OtherNumber);
+        }
+        Ok(())
+    }
+
+    fn call(&mut self, number: u8) -> Result<(), ReplayError> {
+        if self.open.is_some() {
+            return Err(ReplayError::OutOfOrder);
+        }
+        self.open = Some(recorded_calls::run(number, &self.all, &mut self.left)?);
+        Ok(())
+    }
+
+    fn compare(&mut self) -> Result<(), ReplayError> {
+        let call = self.open.take().ok_or(ReplayError::OutOfOrder)?;
+        self.tally.count(call, agrees(&self.all, &self.left));
+        Ok(())
+    }
 }

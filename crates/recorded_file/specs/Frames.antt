@@ -3,13 +3,14 @@
 -- In order: a frame's fields out of its eight bytes; bytes laid over a place; fill; copy.
 use Rattle.std.specs.Prelude.{ℕ, ◌+◌, List, ◌++◌, length, take, drop, get_or, replicate}
 use Rattle.sector.specs.Layout.{field}
+use Rattle.recorded_file.specs.Names.{kind_of}
 use Rattle.recorded_file.specs.Numbers.{pair_at}
 use Rattle.recorded_file.specs.declared.frame.Frame.{Frame}
 
 abbrev pub frame_of : List ℕ → Frame
 frame_of bytes =
     record {
-      kind = get_or bytes 0 0;
+      kind = kind_of (get_or bytes 0 0);
       name = get_or bytes 1 0;
       offset = pair_at bytes 2;
       size = pair_at bytes 4;

@@ -1,4 +1,5 @@
 pub mod Buffers
 pub mod Numbers
+pub mod Names
 pub mod Frames
 pub mod Requests

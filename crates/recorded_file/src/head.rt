@@ -1,32 +1,44 @@
 // The first 16 bytes of the file: a name, the version, the number of cases.
 use crate::input;
-use sector::bytes;
-use std::io;
 use std::io::Read;
+use std::{fmt, io};
 
 const VERSION: u32 = 1;
 
+// Why a file is not replayed at all.
 #[derive(Clone, Copy)]
-pub enum Head {
-    Cases(u32),
+pub enum HeadError {
+    // It ends within the head.
     CutShort,
+    // It has another name or another version.
     Other,
 }
 
-fn head_of(bytes: [u8; 16]) -> Head {
-    if !bytes::same(&bytes[..8], b"nvs_page") {
-        return Head::Other;
+impl fmt::Display for HeadError {
+    fn fmt<W: fmt::Write>(&self, f: &mut fmt::Formatter<W>) -> fmt::Result {
+        f.write_str(match self {
+            HeadError::CutShort => "the file is cut short: its first 16 bytes are not all there",
+            HeadError::Other => {
+                "this is no recorded file of version 1: its first 12 bytes are others"
+            }
+        })
     }
-    if bytes::number_at(&bytes, 8) != VERSION {
-        return Head::Other;
-    }
-    Head::Cases(bytes::number_at(&bytes, 12))
 }
 
-pub fn read<R: Read>(file: &mut R) -> io::Result<Head> {
+// How many cases the file says that it has.
+fn cases_of(bytes: [u8; 16]) -> Result<u32, HeadError> {
+    let version = u32::from_le_bytes([bytes[8], bytes[9], bytes[10], bytes[11]]);
+    if !bytes.starts_with(b"nvs_page") || version != VERSION {
+        return Err(HeadError::Other);
+    }
+    Ok(u32::from_le_bytes([bytes[12], bytes[13], bytes[14], bytes[15]]))
+}
+
+// The number of cases. What the file is to blame for stays apart from a read that fails.
+pub fn read<R: Read>(file: &mut R) -> io::Result<Result<u32, HeadError>> {
     let mut bytes = [0u8; 16];
     if !input::read_full(file, &mut bytes)? {
-        return Ok(Head::CutShort);
+        return Ok(Err(HeadError::CutShort));
     }
-    Ok(head_of(bytes))
+    Ok(cases_of(bytes))
 }

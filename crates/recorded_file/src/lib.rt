@@ -2,8 +2,9 @@
 #![tactic(auto)]
 
 pub mod buffers;
+pub mod error;
 pub mod frame;
 pub mod head;
 pub mod input;
-mod numbers;
+pub mod kind;
 pub mod request;
