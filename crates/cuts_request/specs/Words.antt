@@ -2,22 +2,18 @@
 --
 -- In order: numbers; the key; the type by its number or its name; the value of a single entry; the request, or the first word that is wrong.
 -- A word is the list of its bytes. Not here: the files that the program reads.
-use Rattle.std.specs.Prelude.{Bool, true, false, ◌&&◌, not, cond, List, [], ◌∷◌, ◌++◌, ℕ, ◌+◌, ◌-◌, ◌*◌, eqb, leb, ltb, length, take, drop, get_or, replicate}
+use Rattle.std.specs.Prelude.{Bool, ◌&&◌, cond, List, [], ◌∷◌, ◌++◌, ℕ, ◌+◌, ◌-◌, ◌*◌, eqb, leb, ltb, length, take, drop, get_or, replicate, Option, Some, None, Result, Ok, Err, unwrap_or, bytes_eq, codes}
+use Rattle.std.specs.Option.{option_or}
 use Rattle.sector.specs.declared.ItemType.TheVariants.{U8, I8, U16, I16, U32, I32, U64, I64, Sized, Blob, BlobData, BlobIndex, Any}
-use Rattle.sector.specs.Layout.{little_endian, same_bytes}
+use Rattle.sector.specs.Layout.{little_endian}
 use Rattle.sector.specs.Types.{byte_of, kind_of}
-use Rattle.cuts_request.specs.declared.Number.{Number}
-use Rattle.cuts_request.specs.declared.Parsed.{Parsed}
+use Rattle.cuts_request.specs.declared.Request.{Request}
+use Rattle.cuts_request.specs.declared.Value.{Value}
+use Rattle.cuts_request.specs.declared.Value.TheVariants.{Single, Data}
 use Rattle.cuts_request.specs.declared.Wrong.{Wrong}
-use Rattle.cuts_request.specs.declared.Wrong.TheVariants.{Nothing, BadNamespace, BadType, BadKey, BadValue}
+use Rattle.cuts_request.specs.declared.Wrong.TheVariants.{BadNamespace, BadType, BadKey, BadValue}
 
 -- ---- numbers
-
-abbrev pub good_number : ℕ → Number
-good_number value = record { good = true; value = value }
-
-abbrev pub no_number : Number
-no_number = record { good = false; value = 0 }
 
 -- what a digit stands for: 0 to 9, then A to F, or a to f; 16 where the byte is none
 abbrev pub digit_of : ℕ → ℕ
@@ -31,23 +27,23 @@ digit_of byte =
 
 -- the number that digits of a base stand for, after digits that stand for `before`; none where a byte is no digit of
 -- the base, or where the number is over `most`
-unfoldable pub digits_from : ℕ → ℕ → ℕ → List ℕ → Number
-digits_from base most before [] = good_number before
+unfoldable pub digits_from : ℕ → ℕ → ℕ → List ℕ → Option ℕ
+digits_from base most before [] = Some before
 digits_from base most before (byte ∷ text) =
     cond (ltb (digit_of byte) base && leb (before * base + digit_of byte) most)
     (digits_from base most (before * base + digit_of byte) text)
-    no_number
+    None
 
 -- at least one digit
-abbrev pub digits_of : ℕ → ℕ → List ℕ → Number
-digits_of base most text = cond (eqb (length text) 0) no_number (digits_from base most 0 text)
+abbrev pub digits_of : ℕ → ℕ → List ℕ → Option ℕ
+digits_of base most text = cond (eqb (length text) 0) None (digits_from base most 0 text)
 
 -- begins with 0x
 abbrev pub is_hex : List ℕ → Bool
 is_hex text = ltb 1 (length text) && (eqb (get_or text 0 0) 0x30 && eqb (get_or text 1 0) 0x78)
 
 -- a number from 0 to `most`, in decimal digits, or in hexadecimal ones with a 0x prefix
-abbrev pub number_in : ℕ → List ℕ → Number
+abbrev pub number_in : ℕ → List ℕ → Option ℕ
 number_in most text = cond (is_hex text) (digits_of 16 most (drop 2 text)) (digits_of 10 most text)
 
 -- ---- the key
@@ -62,10 +58,6 @@ key_bytes text = cond (is_key text) (text ++ replicate (16 - length text) 0) (re
 
 -- ---- the type
 
--- what was found before, or the byte of this name
-unfoldable pub or_named : Number → List ℕ → List ℕ → ℕ → Number
-or_named found text name byte = cond found.good found (cond (same_bytes text name) (good_number byte) no_number)
-
 -- a name and its type byte
 abbrev pub Name : Type 0
 Name = List ℕ × ℕ
@@ -73,28 +65,29 @@ Name = List ℕ × ℕ
 -- the names of 01: U8, I8, U16, I16, U32, I32, U64, I64, Sized, Blob, BlobData, BlobIndex, Any
 abbrev pub type_names : List Name
 type_names =
-    (0x55 ∷ 0x38 ∷ [], byte_of U8)
-    ∷ (0x49 ∷ 0x38 ∷ [], byte_of I8)
-    ∷ (0x55 ∷ 0x31 ∷ 0x36 ∷ [], byte_of U16)
-    ∷ (0x49 ∷ 0x31 ∷ 0x36 ∷ [], byte_of I16)
-    ∷ (0x55 ∷ 0x33 ∷ 0x32 ∷ [], byte_of U32)
-    ∷ (0x49 ∷ 0x33 ∷ 0x32 ∷ [], byte_of I32)
-    ∷ (0x55 ∷ 0x36 ∷ 0x34 ∷ [], byte_of U64)
-    ∷ (0x49 ∷ 0x36 ∷ 0x34 ∷ [], byte_of I64)
-    ∷ (0x53 ∷ 0x69 ∷ 0x7A ∷ 0x65 ∷ 0x64 ∷ [], byte_of Sized)
-    ∷ (0x42 ∷ 0x6C ∷ 0x6F ∷ 0x62 ∷ [], byte_of Blob)
-    ∷ (0x42 ∷ 0x6C ∷ 0x6F ∷ 0x62 ∷ 0x44 ∷ 0x61 ∷ 0x74 ∷ 0x61 ∷ [], byte_of BlobData)
-    ∷ (0x42 ∷ 0x6C ∷ 0x6F ∷ 0x62 ∷ 0x49 ∷ 0x6E ∷ 0x64 ∷ 0x65 ∷ 0x78 ∷ [], byte_of BlobIndex)
-    ∷ (0x41 ∷ 0x6E ∷ 0x79 ∷ [], byte_of Any)
+    (codes "U8", byte_of U8)
+    ∷ (codes "I8", byte_of I8)
+    ∷ (codes "U16", byte_of U16)
+    ∷ (codes "I16", byte_of I16)
+    ∷ (codes "U32", byte_of U32)
+    ∷ (codes "I32", byte_of I32)
+    ∷ (codes "U64", byte_of U64)
+    ∷ (codes "I64", byte_of I64)
+    ∷ (codes "Sized", byte_of Sized)
+    ∷ (codes "Blob", byte_of Blob)
+    ∷ (codes "BlobData", byte_of BlobData)
+    ∷ (codes "BlobIndex", byte_of BlobIndex)
+    ∷ (codes "Any", byte_of Any)
     ∷ []
 
-abbrev pub named_among : List Name → Number → List ℕ → Number
-named_among [] found text = found
-named_among (name ∷ names) found text = named_among names (or_named found text name.0 name.1) text
+-- the byte of the first name that is the word
+abbrev pub named_among : List Name → List ℕ → Option ℕ
+named_among [] text = None
+named_among (name ∷ names) text = cond (bytes_eq text name.0) (Some name.1) (named_among names text)
 
 -- the type byte: a number from 0 to 255, or a name of 01
-abbrev pub type_of : List ℕ → Number
-type_of text = named_among type_names (number_in 0xFF text) text
+abbrev pub type_of : List ℕ → Option ℕ
+type_of text = option_or (number_in 0xFF text) (named_among type_names text)
 
 -- ---- the value of a single entry
 
@@ -108,8 +101,8 @@ most_of width =
     cond (eqb width 1) 0xFF (cond (eqb width 2) 0xFFFF (cond (eqb width 4) 0xFFFFFFFF 0xFFFFFFFFFFFFFFFF))
 
 -- a single's value; of data 0, since its word is a file's name
-abbrev pub value_of : ℕ → List ℕ → Number
-value_of kind text = cond (kind_of kind).payload (good_number 0) (number_in (most_of (value_width kind)) text)
+abbrev pub value_of : ℕ → List ℕ → Option ℕ
+value_of kind text = cond (kind_of kind).payload (Some 0) (number_in (most_of (value_width kind)) text)
 
 -- the value's lowest bytes, lowest first, and 0xFF in the rest of the eight
 abbrev pub value_bytes : ℕ → ℕ → List ℕ
@@ -117,36 +110,22 @@ value_bytes width value = take width (little_endian 8 value) ++ replicate (8 - w
 
 -- ---- the request
 
-abbrev pub refused_for : Wrong → Parsed
-refused_for wrong =
-    record {
-      wrong = wrong;
-      request = record { single = false; namespace = 0; kind = 0; key = replicate 16 0; bytes = replicate 8 0 };
-    }
+-- a single's bytes; of data nothing, since its bytes are a file's
+abbrev pub held_value : ℕ → ℕ → Value
+held_value kind value = cond (kind_of kind).payload Data (Single (value_bytes (value_width kind) value))
 
-abbrev pub request_from : ℕ → ℕ → List ℕ → ℕ → Parsed
+abbrev pub request_from : ℕ → ℕ → List ℕ → ℕ → Request
 request_from namespace kind key value =
-    record {
-      wrong = Nothing;
-      request =
-          record {
-            single = not (kind_of kind).payload;
-            namespace = namespace;
-            kind = kind;
-            key = key_bytes key;
-            bytes = value_bytes (value_width kind) value;
-          };
-    }
+    record { namespace = namespace; kind = kind; key = key_bytes key; value = held_value kind value }
 
 -- the first word that is wrong, or the request: of what the words were read as, and the key
-abbrev pub words_checked : Number → Number → List ℕ → Number → Parsed
-words_checked namespace kind key value =
-    cond (not namespace.good) (refused_for BadNamespace)
-    (cond (not kind.good) (refused_for BadType)
-    (cond (not (is_key key)) (refused_for BadKey)
-    (cond (not value.good) (refused_for BadValue)
-    (request_from namespace.value kind.value key value.value))))
+abbrev pub words_checked : Option ℕ → Option ℕ → List ℕ → Option ℕ → Result Request Wrong
+words_checked None kind key value = Err BadNamespace
+words_checked (Some namespace) None key value = Err BadType
+words_checked (Some namespace) (Some kind) key None = Err (cond (is_key key) BadValue BadKey)
+words_checked (Some namespace) (Some kind) key (Some value) =
+    cond (is_key key) (Ok (request_from namespace kind key value)) (Err BadKey)
 
-abbrev pub parsed : List ℕ → List ℕ → List ℕ → List ℕ → Parsed
+abbrev pub parsed : List ℕ → List ℕ → List ℕ → List ℕ → Result Request Wrong
 parsed namespace kind key value =
-    words_checked (number_in 0xFF namespace) (type_of kind) key (value_of (type_of kind).value value)
+    words_checked (number_in 0xFF namespace) (type_of kind) key (value_of (unwrap_or (type_of kind) 0) value)
