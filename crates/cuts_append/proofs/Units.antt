@@ -2,9 +2,7 @@
 use mathlib.Core.Path.{◌≡◌, refl, sym, ◌∙◌}
 use mathlib.Core.Bool.{Bool, true, false, ◌&&◌, not, cond}
 use mathlib.Core.List.{List, [], ◌∷◌, ◌++◌}
-use mathlib.Core.Logic.{⊎_elim}
-use Prim.Native.Nat.{ℕ, zero, suc, ◌+◌, ◌≤◌}
-use native.Mathlib.Nat.{eq-or-lt_of_le}
+use Prim.Native.Nat.{ℕ, ◌+◌, ◌≤◌}
 use native.Mathlib.Omega.{arith}
 use lib.Dec.{eqb, ltb}
 use lib.ListN.{length, length-append}
@@ -22,26 +20,24 @@ use Rattle.page.specs.declared.Outcome.{Outcome}
 use Rattle.page.specs.Record.{Page, next_free}
 use Rattle.page.specs.Writing.{answered, outcome, full_units, item_plan}
 use Rattle.page.proofs.Plans.{length_seal_le}
-use Rattle.call_append.specs.declared.Single.{Single}
+use Rattle.call_append.specs.declared.Single.{Single as SingleItem}
 use Rattle.call_append.specs.declared.Variable.{Variable}
 use Rattle.call_append.specs.Append.{single_checks, single_bytes, single_plan, with_single, append_single, span_for, variable_checks, variable_header, variable_plan, with_variable, append_variable}
 use Rattle.call_append.proofs.Laws.{single_room}
 use Rattle.call_append_variable.proofs.Laws.{variable_room}
 use Rattle.cuts_request.specs.declared.Request.{Request}
+use Rattle.cuts_request.specs.declared.Value.{Value}
+use Rattle.cuts_request.specs.declared.Value.TheVariants.{Single, Data}
 use Rattle.cuts_append.specs.declared.Sector.{Sector}
-use Rattle.cuts_append.specs.Cutting.{single_asked, variable_asked, appended, first_not, is_stopped, unit_count, request_checks, request_plan, CountsThePlan}
+use Rattle.cuts_append.proofs.Laws.{first_is}
+use Rattle.cuts_append.specs.Cutting.{single_asked, variable_asked, appended, first_not, is_stopped, unit_count, request_checks, request_plan, HasEight, CountsThePlan}
 
 -- ---- the first number that is not below the total
 
 first_at : (test : ℕ → Bool) (total n more : ℕ) → ((k : ℕ) → test k ≡ ltb k total) → n ≤ total → total ≤ n + more
     → first_not test n more ≡ total
-unfolding first_not
-first_at test total n zero t h g = omega arith
-first_at test total n (suc more) t h g =
-    ⊎_elim
-    (λ e. rw (t n ∙ le-ltb n total (omega arith)) e)
-    (λ l. rw (t n ∙ lt-ltb n total l) (first_at test total (n + 1) more t (omega arith) (omega arith)))
-    (eq-or-lt_of_le h)
+first_at test total n more t h g =
+    first_is test n more total h g (λ k a b. t k ∙ lt-ltb k total b) (λ a. t total ∙ le-ltb total total (omega arith))
 
 -- ---- where an append is stopped
 
@@ -93,7 +89,7 @@ item_le header start span map payload h room short =
       length_seal_le start span (mark_range Written start span map) room,
     )
 
-single_le : (image : List ℕ) (page : Page) (item : Single) → length item.key ≡ 16 → length item.bytes ≡ 8
+single_le : (image : List ℕ) (page : Page) (item : SingleItem) → length item.key ≡ 16 → length item.bytes ≡ 8
     → accepted (single_checks image page item) ≡ true → length (single_plan page item) ≤ 1100
 unfolding single_plan item_plan
 single_le image page item k b h =
@@ -134,12 +130,13 @@ planned before request payload =
     cond (accepted (request_checks before.image before.page request payload)) (length (request_plan before.page request payload)) 0
 
 module _ (before : Sector) (request : Request) (payload : List ℕ) (k : length request.key ≡ 16) where
-  single_count : length request.bytes ≡ 8 → request.single ≡ true → unit_count before request payload ≡ planned before request payload
+  single_count : (bytes : List ℕ) → length bytes ≡ 8 → request.value ≡ Single bytes
+      → unit_count before request payload ≡ planned before request payload
   unfolding appended append_single
-  single_count b e =
+  single_count bytes b e =
       let image = before.image in
       let page = before.page in
-      let item = single_asked request in
+      let item = single_asked request bytes in
       let checks = single_checks image page item in
       let total = length (single_plan page item) in
       let same : planned before request payload ≡ cond (accepted checks) total 0 = rw e in
@@ -148,7 +145,7 @@ module _ (before : Sector) (request : Request) (payload : List ℕ) (k : length 
       (single_le image page item k b)
       ∙ sym same
 
-  variable_count : request.single ≡ false → unit_count before request payload ≡ planned before request payload
+  variable_count : request.value ≡ Data → unit_count before request payload ≡ planned before request payload
   unfolding appended append_variable
   variable_count e =
       let image = before.image in
@@ -163,8 +160,8 @@ module _ (before : Sector) (request : Request) (payload : List ℕ) (k : length 
       ∙ sym same
 
 pub counts_the_plan : CountsThePlan
-counts_the_plan before request payload k b = go request.single refl
+counts_the_plan before request payload k b = go request.value b refl
   where
-    go : (single : Bool) → request.single ≡ single → unit_count before request payload ≡ planned before request payload
-    go true e = single_count before request payload k b e
-    go false e = variable_count before request payload k e
+    go : (value : Value) → HasEight value → request.value ≡ value → unit_count before request payload ≡ planned before request payload
+    go (Single bytes) b e = single_count before request payload k bytes b e
+    go Data b e = variable_count before request payload k e

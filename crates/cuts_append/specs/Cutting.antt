@@ -2,7 +2,8 @@
 --
 -- In order: the append; the cut; how many units there are; the two sectors that a cut may leave, by their items and bytes; what was
 -- found; runs of cuts that are found alike; bytes for an item.
-use Rattle.std.specs.Prelude.{◌≡◌, Bool, true, false, ◌&&◌, cond, List, [], ◌∷◌, ◌++◌, ℕ, zero, suc, ◌+◌, ◌-◌, ◌*◌, ◌%◌, eqb, leb, length}
+use Rattle.std.specs.Prelude.{◌≡◌, Bool, true, false, ◌&&◌, cond, List, [], ◌∷◌, ◌++◌, ℕ, zero, suc, ◌+◌, ◌-◌, ◌*◌, ◌%◌, eqb, leb, length, bytes_eq}
+use Rattle.std.specs.Cmp.Lexicographic.{pointwise}
 use Rattle.call_append.specs.declared.Single.{Single}
 use Rattle.call_append.specs.declared.Variable.{Variable}
 use Rattle.call_append.specs.Append.{single_checks, single_plan, append_single, append_single_image, variable_checks, variable_plan, append_variable, append_variable_image}
@@ -12,10 +13,12 @@ use Rattle.page.specs.declared.Listed.{Listed}
 use Rattle.page.specs.declared.Outcome.{Outcome}
 use Rattle.page.specs.Record.{Page, next_free}
 use Rattle.sector.specs.Answers.{Check, accepted, number_of}
-use Rattle.sector.specs.Layout.{entries_per_page, field, same_bytes}
+use Rattle.sector.specs.Layout.{entries_per_page, field}
 use Rattle.cuts_append.specs.declared.Cut.{Cut}
 use Rattle.cuts_append.specs.declared.Finished.{Finished}
 use Rattle.cuts_request.specs.declared.Request.{Request}
+use Rattle.cuts_request.specs.declared.Value.{Value}
+use Rattle.cuts_request.specs.declared.Value.TheVariants.{Single as SingleValue, Data}
 use Rattle.cuts_append.specs.declared.Sector.{Sector}
 pub use Rattle.cuts_append.specs.declared.Found.{Found}
 pub use Rattle.cuts_append.specs.declared.Found.TheVariants.{Absent, Whole, Otherwise}
@@ -23,15 +26,15 @@ pub use Rattle.cuts_append.specs.declared.Found.TheVariants.{Absent, Whole, Othe
 -- ---- the append
 
 -- a single entry: span 1, no chunk
-abbrev pub single_asked : Request → Single
-single_asked request =
+abbrev pub single_asked : Request → List ℕ → Single
+single_asked request bytes =
     record {
       namespace = request.namespace;
       kind = request.kind;
       span = 1;
       chunk = 0xFF;
       key = request.key;
-      bytes = request.bytes;
+      bytes = bytes;
     }
 
 -- data: no chunk
@@ -39,17 +42,34 @@ abbrev pub variable_asked : Request → Variable
 variable_asked request =
     record { namespace = request.namespace; kind = request.kind; chunk = 0xFF; key = request.key }
 
+-- what is so of a single entry with these bytes, or of data
+abbrev pub by_value : {A : Type 0} → Value → (List ℕ → A) → A → A
+by_value (SingleValue bytes) single other = single bytes
+by_value Data single other = other
+
 unfoldable pub appended : List ℕ → Page → Request → List ℕ → ℕ → Outcome
 appended image page request payload n =
-    cond request.single
-    (append_single image page (single_asked request) n)
+    by_value request.value
+    (λ bytes. append_single image page (single_asked request bytes) n)
     (append_variable image page (variable_asked request) payload n)
 
 unfoldable pub appended_image : List ℕ → Page → Request → List ℕ → ℕ → List ℕ
 appended_image image page request payload n =
-    cond request.single
-    (append_single_image image page (single_asked request) n)
+    by_value request.value
+    (λ bytes. append_single_image image page (single_asked request bytes) n)
     (append_variable_image image page (variable_asked request) payload n)
+
+-- what the append stopped after n units answers and leaves
+abbrev pub left_after : Sector → Request → List ℕ → ℕ → Finished
+left_after before request payload n =
+    record {
+      answer = (appended before.image before.page request payload n).answer;
+      sector =
+          record {
+            image = appended_image before.image before.page request payload n;
+            page = (appended before.image before.page request payload n).page;
+          };
+    }
 
 -- ---- the cut
 
@@ -69,15 +89,7 @@ most = 1100
 
 -- what the append that nothing stops answers and leaves
 abbrev pub finished_by : Sector → Request → List ℕ → Finished
-finished_by before request payload =
-    record {
-      answer = (appended before.image before.page request payload most).answer;
-      sector =
-          record {
-            image = appended_image before.image before.page request payload most;
-            page = (appended before.image before.page request payload most).page;
-          };
-    }
+finished_by before request payload = left_after before request payload most
 
 -- ---- the units
 
@@ -98,19 +110,26 @@ unit_count before request payload = first_not (is_stopped before request payload
 -- the checks of the request's append, in 01's order
 abbrev pub request_checks : List ℕ → Page → Request → List ℕ → List Check
 request_checks image page request payload =
-    cond request.single
-    (single_checks image page (single_asked request))
+    by_value request.value
+    (λ bytes. single_checks image page (single_asked request bytes))
     (variable_checks image page (variable_asked request) payload)
 
 -- the units that the request's append programs
 abbrev pub request_plan : Page → Request → List ℕ → List Unit4
 request_plan page request payload =
-    cond request.single (single_plan page (single_asked request)) (variable_plan page (variable_asked request) payload)
+    by_value request.value
+    (λ bytes. single_plan page (single_asked request bytes))
+    (variable_plan page (variable_asked request) payload)
+
+-- a single has eight bytes
+abbrev pub HasEight : Value → Type 0
+HasEight (SingleValue bytes) = length bytes ≡ 8
+HasEight Data = Unit {0}
 
 -- what is counted is the plan, where no check refuses
 abbrev pub CountsThePlan : Type 0
 CountsThePlan =
-    (before : Sector) (request : Request) (payload : List ℕ) → length request.key ≡ 16 → length request.bytes ≡ 8
+    (before : Sector) (request : Request) (payload : List ℕ) → length request.key ≡ 16 → HasEight request.value
     → unit_count before request payload
     ≡ cond (accepted (request_checks before.image before.page request payload)) (length (request_plan before.page request payload)) 0
 
@@ -120,10 +139,8 @@ CountsThePlan =
 abbrev pub same_place : Listed → Listed → Bool
 same_place place other = eqb place.hash other.hash && eqb place.index other.index
 
-unfoldable pub same_list : List Listed → List Listed → Bool
-same_list [] others = eqb (length others) 0
-same_list (place ∷ places) [] = false
-same_list (place ∷ places) (other ∷ others) = same_place place other && same_list places others
+abbrev pub same_list : List Listed → List Listed → Bool
+same_list = pointwise same_place
 
 -- as many entries used, and the same list
 abbrev pub same_items : Page → Page → Bool
@@ -133,7 +150,7 @@ same_items page other =
 -- the first `count` entries have the same bytes; false where there are not so many
 abbrev pub same_entries : List ℕ → List ℕ → ℕ → Bool
 same_entries image other count =
-    leb count entries_per_page && same_bytes (field 64 (32 * count) image) (field 64 (32 * count) other)
+    leb count entries_per_page && bytes_eq (field 64 (32 * count) image) (field 64 (32 * count) other)
 
 -- the items of the second, with the bytes of all entries that are not free there
 abbrev pub same_sector : Sector → Sector → Bool
