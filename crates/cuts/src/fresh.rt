@@ -1,6 +1,6 @@
 // A 4,000-byte curve on a fresh page.
-use cuts_append::Sector;
-use cuts_request::Request;
+use cuts_append::{Append, Sector};
+use cuts_request::{Request, Value};
 use page::{Listed, ThinPage};
 use sector::PageState;
 use std::io;
@@ -29,25 +29,25 @@ fn page() -> Sector {
 
 fn curve() -> Request {
     Request {
-        single: false,
         namespace: 1,
         kind: 0x42,
-        key: [
-            0x63, 0x75, 0x72, 0x76, 0x65, 0, 0, 0, 0, 0, 0, 0, 0, 0, 0, 0,
-        ],
-        bytes: [0; 8],
+        key: cuts_request::key_bytes(b"curve"),
+        value: Value::Data,
     }
 }
 
 pub(crate) fn print_all(rt: &impl Print) -> io::Result<()> {
     let mut payload = [0u8; 4000];
     cuts_append::fill(&mut payload);
+    let append = Append {
+        before: page(),
+        request: curve(),
+        payload: &payload,
+    };
     cuts_report::print_cuts(
         rt,
         b"cuts of a 4,000-byte curve on a fresh page",
         b"curve",
-        page(),
-        curve(),
-        &payload,
+        &append,
     )
 }

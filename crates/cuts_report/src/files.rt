@@ -1,50 +1,68 @@
-// Files, opened for reading: a sentence for each that cannot be used.
+// Files, opened for reading, and why one cannot be used.
 ghost use Rattle.std.specs.Prelude.{◌≤◌, IfOk, length};
 
-use crate::show::number;
-use crate::words::word;
+use crate::show::Grouped;
 use sector::SECTOR_SIZE;
 use std::io::{ErrorKind, Read};
 use std::rt::Files;
-use std::{fs, io, str};
+use std::{fmt, fs, io, str};
 
-// A file's first 4,096 bytes, or all that it has.
-#[derive(Drop)]
-pub(crate) struct Start {
-    pub(crate) bytes: [u8; 4096],
-    pub(crate) count: usize,
-    // Whether the file has more.
-    pub(crate) more: bool,
-    ghost within: { count ≤ 4096 },
+// Why a file cannot be used.
+#[derive(Clone, Copy, Debug, PartialEq, Eq)]
+pub(crate) enum Unusable {
+    Missing,
+    Forbidden,
+    NotOpened,
+    // It cannot be read, as a folder, or it ends and then goes on.
+    NotRead,
+    // It has so many bytes, which are fewer than a sector has.
+    Short(usize),
+    Long,
 }
 
-fn not_opened(rt: &impl Print, path: &[u8], error: ErrorKind) -> io::Result<()> {
-    print!(rt; "cuts: ")?;
-    word(rt, path)?;
-    match error {
-        ErrorKind::NotFound => println!(rt; ": there is no such file"),
-        ErrorKind::PermissionDenied => println!(rt; ": the file may not be read"),
-        _ => println!(rt; ": it cannot be opened"),
+impl From<ErrorKind> for Unusable {
+    fn from(kind: ErrorKind) -> Unusable {
+        match kind {
+            ErrorKind::NotFound => Unusable::Missing,
+            ErrorKind::PermissionDenied => Unusable::Forbidden,
+            _ => Unusable::NotOpened,
+        }
     }
 }
 
-fn not_read(rt: &impl Print, path: &[u8]) -> io::Result<()> {
-    print!(rt; "cuts: ")?;
-    word(rt, path)?;
-    println!(rt; ": it is no file that can be read")
+// What follows the file's name in the sentence.
+impl fmt::Display for Unusable {
+    fn fmt<W: fmt::Write>(&self, f: &mut fmt::Formatter<W>) -> fmt::Result {
+        match self {
+            Unusable::Missing => f.write_str(": there is no such file"),
+            Unusable::Forbidden => f.write_str(": the file may not be read"),
+            Unusable::NotOpened => f.write_str(": it cannot be opened"),
+            Unusable::NotRead => f.write_str(": it is no file that can be read"),
+            Unusable::Short(size) => {
+                write!(
+                    f,
+                    " has {} bytes; a sector has 4,096: 1 BadImage",
+                    Grouped(*size)
+                )
+            }
+            Unusable::Long => {
+                f.write_str(" has more than 4,096 bytes; a sector has 4,096: 1 BadImage")
+            }
+        }
+    }
 }
 
-// The file, or none, and why.
-fn open<R: Files + Print>(rt: &R, path: &[u8]) -> io::Result<Option<R::File>> {
-    let error = match str::from_utf8(path) {
-        Ok(name) => match fs::open(rt, name) {
-            Ok(file) => return Ok(Some(file)),
-            Err(error) => error.kind(),
-        },
-        Err(_) => ErrorKind::InvalidFilename,
-    };
-    not_opened(rt, path, error)?;
-    Ok(None)
+// A file's first bytes, as many as a buffer takes, or all that it has.
+#[derive(Clone, Copy)]
+pub(crate) struct Start<'a> {
+    pub(crate) bytes: &'a [u8],
+    // Whether the file has more.
+    pub(crate) more: bool,
+}
+
+fn open<R: Files>(rt: &R, path: &[u8]) -> Result<R::File, Unusable> {
+    let name = str::from_utf8(path).map_err(|_| Unusable::NotOpened)?;
+    fs::open(rt, name).map_err(|error| Unusable::from(error.kind()))
 }
 
 // Reads until the buffer is full or the file ends: how many bytes it has put at the buffer's start.
@@ -62,51 +80,38 @@ fn fill<F: Read>(file: &mut F, bytes: &mut [u8]) -> io::Result<usize>
     Ok(count)
 }
 
-fn start_of<F: Read>(file: &mut F) -> io::Result<Start> {
-    let mut bytes = [0u8; SECTOR_SIZE];
-    let count = fill(file, &mut bytes)?;
+fn start_of<'a, F: Read>(file: &mut F, buffer: &'a mut [u8]) -> io::Result<Start<'a>> {
+    let count = fill(file, buffer)?;
     let more = fill(file, &mut [0u8; 1])? > 0;
-    Ok(Start { bytes, count, more })
+    Ok(Start {
+        bytes: &buffer[..count],
+        more,
+    })
 }
 
-// The start of a file, or none, and why: it cannot be opened, or read, as a folder. What ends and then goes on is no file.
-pub(crate) fn read_start<R: Files + Print>(rt: &R, path: &[u8]) -> io::Result<Option<Start>> {
-    let Some(mut file) = open(rt, path)? else {
-        return Ok(None);
-    };
-    match start_of(&mut file) {
-        Ok(start) if start.count == SECTOR_SIZE || !start.more => Ok(Some(start)),
-        _ => {
-            not_read(rt, path)?;
-            Ok(None)
-        }
+// The start of a file. What ends and then goes on is no file.
+pub(crate) fn read_start<'a, R: Files>(
+    rt: &R,
+    path: &[u8],
+    buffer: &'a mut [u8],
+) -> Result<Start<'a>, Unusable> {
+    let size = buffer.len();
+    let mut file = open(rt, path)?;
+    match start_of(&mut file, buffer) {
+        Ok(start) if start.bytes.len() == size || !start.more => Ok(start),
+        _ => Err(Unusable::NotRead),
     }
 }
 
-fn not_a_sector(rt: &impl Print, path: &[u8], size: usize) -> io::Result<()> {
-    print!(rt; "cuts: ")?;
-    word(rt, path)?;
-    print!(rt; " has ")?;
-    if size > SECTOR_SIZE {
-        print!(rt; "more than 4,096")?;
-    } else {
-        number(rt, size)?;
-    }
-    println!(rt; " bytes; a sector has 4,096: 1 BadImage")
-}
-
-// The file's bytes; none, and why, where it has not as many as a sector.
-pub(crate) fn read_sector<R: Files + Print>(rt: &R, path: &[u8]) -> io::Result<Option<[u8; 4096]>> {
-    let Some(start) = read_start(rt, path)? else {
-        return Ok(None);
-    };
-    if start.count < SECTOR_SIZE {
-        not_a_sector(rt, path, start.count)?;
-        return Ok(None);
-    }
+// The bytes of a file that has as many as a sector.
+pub(crate) fn read_sector<R: Files>(rt: &R, path: &[u8]) -> Result<[u8; 4096], Unusable> {
+    let mut image = [0u8; SECTOR_SIZE];
+    let start = read_start(rt, path, &mut image)?;
     if start.more {
-        not_a_sector(rt, path, SECTOR_SIZE + 1)?;
-        return Ok(None);
+        return Err(Unusable::Long);
     }
-    Ok(Some(start.bytes))
+    if start.bytes.len() < SECTOR_SIZE {
+        return Err(Unusable::Short(start.bytes.len()));
+    }
+    Ok(image)
 }

@@ -1,68 +1,58 @@
 // Standard output: the lines of a run.
 ghost use Rattle.std.specs.Prelude.{◌≤◌};
 
-use cuts_append::{Found, Sector};
-use cuts_request::Request;
+use cuts_append::{Append, Found, Sector};
 use sector::{Answer, answers};
-use std::io;
+use std::{fmt, io};
 
 // A number, with a comma after the thousands.
-pub(crate) fn number(rt: &impl Print, value: usize) -> io::Result<()> {
-    if value < 1000 {
-        return print!(rt; "{value}");
-    }
-    let thousands = value / 1000;
-    let rest = value % 1000;
-    print!(rt; "{thousands},{rest:03}")
-}
+#[derive(Clone, Copy)]
+pub(crate) struct Grouped(pub(crate) usize);
 
-// When a refusal comes, after its number: those that an append, or opening a sector, gives to a record that opening read.
-fn reason(answer: Answer) -> &'static str {
-    match answer {
-        Answer::WrongState => " WrongState: the page is not Active",
-        Answer::BadRequest => {
-            " BadRequest: the type is none that an append takes, or the item has data and is in namespace 0"
+impl fmt::Display for Grouped {
+    fn fmt<W: fmt::Write>(&self, f: &mut fmt::Formatter<W>) -> fmt::Result {
+        if self.0 < 1000 {
+            return write!(f, "{}", self.0);
         }
-        Answer::ValueTooLong => " ValueTooLong: the item takes more than 126 entries",
-        Answer::PageFull => " PageFull: the item takes more entries than are free",
-        Answer::CorruptedData => " CorruptedData: the header is not that of an open page",
-        _ => "",
+        write!(f, "{},{:03}", self.0 / 1000, self.0 % 1000)
     }
 }
 
-// A refusal's number and name, and when it comes.
-pub(crate) fn answered(rt: &impl Print, answer: Answer) -> io::Result<()> {
-    number(rt, sector::answers::number_of(answer) as usize)?;
-    rt.print(reason(answer))
+// A refusal's number and name, and when it comes: those that an append, or opening a sector, gives to a record that opening read.
+#[derive(Clone, Copy)]
+pub(crate) struct Reason(pub(crate) Answer);
+
+impl fmt::Display for Reason {
+    fn fmt<W: fmt::Write>(&self, f: &mut fmt::Formatter<W>) -> fmt::Result {
+        write!(f, "{}", answers::number_of(self.0))?;
+        f.write_str(match self.0 {
+            Answer::WrongState => " WrongState: the page is not Active",
+            Answer::BadRequest => {
+                " BadRequest: the type is none that an append takes, or the item has data and is in namespace 0"
+            }
+            Answer::ValueTooLong => " ValueTooLong: the item takes more than 126 entries",
+            Answer::PageFull => " PageFull: the item takes more entries than are free",
+            Answer::CorruptedData => " CorruptedData: the header is not that of an open page",
+            _ => "",
+        })
+    }
 }
 
 fn found(rt: &impl Print, name: &[u8], what: Found) -> io::Result<()> {
-    if is_otherwise(what) {
-        return println!(rt; ": found otherwise");
-    }
+    let rest = match what {
+        Found::Absent => "absent",
+        Found::Whole => "there, whole",
+        Found::Otherwise => return println!(rt; ": found otherwise"),
+    };
     print!(rt; ": opens, the ")?;
     rt.write_all(name)?;
-    match what {
-        Found::Absent => println!(rt; " is absent"),
-        Found::Whole => println!(rt; " is there, whole"),
-        Found::Otherwise => println!(rt;),
-    }
-}
-
-fn is_otherwise(what: Found) -> bool {
-    match what {
-        Found::Absent => false,
-        Found::Whole => false,
-        Found::Otherwise => true,
-    }
+    println!(rt; " is {rest}")
 }
 
 fn range(rt: &impl Print, name: &[u8], first: usize, last: usize, what: Found) -> io::Result<()> {
-    print!(rt; "cut after ")?;
-    number(rt, first)?;
+    print!(rt; "cut after {}", Grouped(first))?;
     if first != last {
-        print!(rt; " to ")?;
-        number(rt, last)?;
+        print!(rt; " to {}", Grouped(last))?;
     }
     print!(rt; " units")?;
     found(rt, name, what)
@@ -72,10 +62,8 @@ fn range(rt: &impl Print, name: &[u8], first: usize, last: usize, what: Found) -
 fn ranges(
     rt: &impl Print,
     name: &[u8],
-    before: Sector,
-    after: Sector,
-    request: Request,
-    payload: &[u8],
+    append: &Append,
+    after: &Sector,
     units: usize,
 ) -> io::Result<usize>
     requires { units ≤ 1100 }
@@ -83,10 +71,10 @@ fn ranges(
     let mut otherwise = 0;
     let mut n = 0;
     while n <= units {
-        let last = cuts_append::last_alike(before, after, request, payload, n, units);
-        let what = cuts_append::found_after(before, after, request, payload, n);
+        let last = append.last_alike(after, n, units);
+        let what = append.found_after(after, n);
         range(rt, name, n, last, what)?;
-        if is_otherwise(what) {
+        if what == Found::Otherwise {
             otherwise += last - n + 1;
         }
         n = last + 1;
@@ -95,26 +83,13 @@ fn ranges(
 }
 
 // All the cuts of an append, or why it is refused.
-pub(crate) fn cuts(
-    rt: &impl Print,
-    name: &[u8],
-    before: Sector,
-    request: Request,
-    payload: &[u8],
-) -> io::Result<()> {
-    let finished = cuts_append::finish(before, request, payload);
-    let answer = finished.answer;
-    if !answers::is_done(answer) {
-        print!(rt; ": the append is refused, ")?;
-        answered(rt, answer)?;
-        return println!(rt;);
+pub(crate) fn cuts(rt: &impl Print, name: &[u8], append: &Append) -> io::Result<()> {
+    let finished = append.finish();
+    if !answers::is_done(finished.answer) {
+        return println!(rt; ": the append is refused, {}", Reason(finished.answer));
     }
-    let after = finished.sector;
-    let units = cuts_append::count_units(before, request, payload);
-    print!(rt; ": ")?;
-    number(rt, units)?;
-    println!(rt; " units")?;
-    let otherwise = ranges(rt, name, before, after, request, payload, units)?;
-    number(rt, otherwise)?;
-    println!(rt; " cuts found otherwise")
+    let units = append.count_units();
+    println!(rt; ": {} units", Grouped(units))?;
+    let otherwise = ranges(rt, name, append, &finished.sector, units)?;
+    println!(rt; "{} cuts found otherwise", Grouped(otherwise))
 }

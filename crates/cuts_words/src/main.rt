@@ -2,41 +2,75 @@
 // that refuse: a line each.
 #![tactic(auto)]
 
-use cuts_report::print_words;
+use cuts_report::{Words, print_words};
 use std::io;
 use std::rt::Files;
 
-// On a page with 15 entries: a curve of 32 bytes in a namespace.
+// A curve of 32 bytes on a page with 15 entries.
+const CURVE: Words = Words {
+    image: b"page.bin",
+    namespace: b"1",
+    kind: b"BlobData",
+    key: b"curve",
+    value: b"curve.bin",
+};
+
+// A single entry on that page.
+const UNIT: Words = Words {
+    image: b"page.bin",
+    namespace: b"1",
+    kind: b"U32",
+    key: b"unit",
+    value: b"0xDEADBEEF",
+};
+
+// The curve in a namespace.
 fn in_namespace<R: Files + Print>(rt: &R, namespace: &[u8]) -> io::Result<()> {
+    print_words(rt, Words { namespace, ..CURVE })
+}
+
+// A single entry of another type and value.
+fn single<'a, R: Files + Print>(rt: &R, kind: &'a [u8], value: &'a [u8]) -> io::Result<()> {
     print_words(
         rt,
-        b"page.bin",
-        namespace,
-        b"BlobData",
-        b"curve",
-        b"curve.bin",
+        Words {
+            kind,
+            value,
+            ..UNIT
+        },
     )
 }
 
-// A single entry.
-fn single<R: Files + Print>(rt: &R, kind: &[u8], value: &[u8]) -> io::Result<()> {
-    print_words(rt, b"page.bin", b"1", kind, b"unit", value)
-}
-
-// A single entry on another page.
+// The single entry on another page.
 fn on_page<R: Files + Print>(rt: &R, image: &[u8]) -> io::Result<()> {
-    print_words(rt, image, b"1", b"U32", b"unit", b"0xDEADBEEF")
+    print_words(rt, Words { image, ..UNIT })
 }
 
 // Data out of a file.
-fn data<R: Files + Print>(rt: &R, namespace: &[u8], path: &[u8]) -> io::Result<()> {
-    print_words(rt, b"page.bin", namespace, b"0x41", b"curve", path)
+fn data<'a, R: Files + Print>(rt: &R, namespace: &'a [u8], path: &'a [u8]) -> io::Result<()> {
+    print_words(
+        rt,
+        Words {
+            namespace,
+            kind: b"0x41",
+            value: path,
+            ..CURVE
+        },
+    )
 }
 
 fn words<R: Files + Print>(rt: &R) -> io::Result<()> {
     in_namespace(rt, b"300")?;
     in_namespace(rt, b"")?;
-    print_words(rt, b"page.bin", b"1", b"U8", b"sixteen_bytes_on", b"1")?;
+    print_words(
+        rt,
+        Words {
+            kind: b"U8",
+            key: b"sixteen_bytes_on",
+            value: b"1",
+            ..UNIT
+        },
+    )?;
     single(rt, b"Curve", b"1")?;
     single(rt, b"U8", b"256")
 }
@@ -58,7 +92,14 @@ fn refusals<R: Files + Print>(rt: &R) -> io::Result<()> {
     single(rt, b"0x05", b"1")?;
     data(rt, b"0", b"curve.bin")?;
     data(rt, b"1", b"curve4001.bin")?;
-    print_words(rt, b"crowded.bin", b"1", b"Blob", b"curve", b"curve.bin")
+    print_words(
+        rt,
+        Words {
+            image: b"crowded.bin",
+            kind: b"Blob",
+            ..CURVE
+        },
+    )
 }
 
 fn main(rt: HostRuntime) -> io::Result<()> {
