@@ -1,4 +1,4 @@
--- Laws of words: numbers digit by digit, and that none is over its bound.
+-- Laws of words: numbers digit by digit.
 use Rattle.std.proofs.Common.{◌≡◌, refl, ◌∙◌, ℕ, ◌+◌, ◌*◌, ◌<◌, ◌≤◌, cond, ◌&&◌, ltb, leb, List, length, get_or, drop, Some, None, add-one, drop-cons, arith}
 use Rattle.std.proofs.Math.Seq.{drop-length}
 use Rattle.std.proofs.lemmas.Bool.Decides.{nat_tests}
