@@ -1,31 +1,20 @@
 // A 4,000-byte curve on a fresh page.
 use cuts_append::{Append, Sector};
 use cuts_request::{Request, Value};
-use page::{Listed, ThinPage};
-use sector::PageState;
+use page::ThinPage;
+use sector::SECTOR_SIZE;
 use std::io;
 
-fn uninitialized() -> ThinPage {
-    let place = Listed { hash: 0, index: 0 };
-    ThinPage {
-        state: PageState::Uninitialized,
-        sequence: 0,
-        version: 0,
-        crc: 0,
-        map: [0xFF; 32],
-        used: 0,
-        erased: 0,
-        len: 0,
-        list: [place; 126],
-    }
-}
-
+// A page whose header was written whole. A blank one takes it.
 fn page() -> Sector {
-    let mut image = [0xFFu8; 4096];
-    let outcome = call_page_state::initialize(&mut image, uninitialized(), 1, 8);
-    let page = outcome.page;
+    let mut image = [0xFFu8; SECTOR_SIZE];
+    let mut page = ThinPage::uninitialized();
+    let Ok(()) = call_page_state::initialize(&mut image, &mut page, 1, 8) else {
+        unreachable!()
+    };
     Sector { image, page }
 }
+
 
 fn curve() -> Request {
     Request {

@@ -10,12 +10,11 @@ use Rattle.call_append.specs.Append.{single_checks, single_plan, append_single, 
 use Rattle.flash.specs.Flash.{Unit4}
 use Rattle.opening.specs.Opening.{opening, opening_image}
 use Rattle.page.specs.declared.Listed.{Listed}
-use Rattle.page.specs.declared.Outcome.{Outcome}
-use Rattle.page.specs.Record.{Page, next_free}
-use Rattle.sector.specs.Answers.{Check, accepted, number_of}
+use Rattle.page.specs.Record.{Page, next_free, uninitialized}
+use Rattle.page.specs.Writing.{Outcome}
+use Rattle.sector.specs.Answers.{Answer, Check, accepted, number_of, answer_in, value_in}
 use Rattle.sector.specs.Layout.{entries_per_page, field}
-use Rattle.cuts_append.specs.declared.Cut.{Cut}
-use Rattle.cuts_append.specs.declared.Finished.{Finished}
+use Rattle.cuts_append.specs.declared.Cut.{Cut as CutLeft}
 use Rattle.cuts_request.specs.declared.Request.{Request}
 use Rattle.cuts_request.specs.declared.Value.{Value}
 use Rattle.cuts_request.specs.declared.Value.TheVariants.{Single as SingleValue, Data}
@@ -59,6 +58,11 @@ appended_image image page request payload n =
     (λ bytes. append_single_image image page (single_asked request bytes) n)
     (append_variable_image image page (variable_asked request) payload n)
 
+-- what an append answers, and the sector that it leaves
+pub record Finished : Type 0 where
+  pub answer : Answer
+  pub sector : Sector
+
 -- what the append stopped after n units answers and leaves
 abbrev pub left_after : Sector → Request → List ℕ → ℕ → Finished
 left_after before request payload n =
@@ -72,6 +76,21 @@ left_after before request payload n =
     }
 
 -- ---- the cut
+
+-- what a stopped append answers; what opening answers then, and the sector that it leaves
+pub record Cut : Type 0 where
+  pub answer : Answer
+  pub opened : Answer
+  pub sector : Sector
+
+-- the cut that the code hands back; where opening refuses, its record is the Uninitialized one
+abbrev pub cut_of : CutLeft → Cut
+cut_of cut =
+    record {
+      answer = cut.answer;
+      opened = answer_in cut.opened;
+      sector = record { image = cut.image; page = value_in uninitialized cut.opened };
+    }
 
 -- what the stopped append answers; what opening answers then, and leaves
 abbrev pub cut_after : Sector → Request → List ℕ → ℕ → Cut

@@ -2,16 +2,15 @@
 #![tactic(auto)]
 
 ghost use Rattle.std.specs.Prelude.{◌≡◌, ℕ, ◌≤◌, length};
-ghost use Rattle.cuts_append.specs.Cutting.{appended, appended_image, cut_after, left_after, finished_by, same_items, same_entries, same_sector, found_in, found_after, unit_count, last_alike, curve};
+ghost use Rattle.sector.specs.Answers.{value_where_done};
+ghost use Rattle.cuts_append.specs.Cutting.{appended, appended_image, left_after, cut_of, cut_after, finished_by, is_stopped, unit_count, same_items, same_entries, same_sector, found_in, found_after, last_alike, curve};
 
 use call_append::{Single, Variable};
 use cuts_request::{Request, Value};
-use page::{Outcome, ThinPage};
-use sector::{Answer, ENTRIES_PER_PAGE, ENTRY_SIZE, ITEMS_OFFSET, answers};
+use page::ThinPage;
+use sector::{ENTRIES_PER_PAGE, ENTRY_SIZE, ITEMS_OFFSET, Refusal};
 
 const NO_CHUNK: u8 = 0xFF;
-
-const STOPPED: u8 = 11;
 
 // More units than any append has.
 const MOST: usize = 1100;
@@ -31,19 +30,12 @@ pub struct Append<'a> {
     pub payload: &'a [u8],
 }
 
-// What an append answered and left.
-#[derive(Clone, Copy)]
-pub struct Finished {
-    pub answer: Answer,
-    pub sector: Sector,
-}
-
-// What the stopped append answered, and what opening then answered and left.
+// What the stopped append answered; the image that opening then left, and its record, or why it refuses.
 #[derive(Clone, Copy)]
 pub struct Cut {
-    pub answer: Answer,
-    pub opened: Answer,
-    pub sector: Sector,
+    pub answer: Result<(), Refusal>,
+    pub image: [u8; 4096],
+    pub opened: Result<ThinPage, Refusal>,
 }
 
 // What opening found after a cut: the items from before and nothing of the new one, these and the new one, or something else.
@@ -58,13 +50,14 @@ pub enum Found {
 #[tactic(auto, unfolding(crate::specs::Cutting::appended, crate::specs::Cutting::appended_image))]
 pub fn append_item(
     image: &mut [u8],
-    page: ThinPage,
+    page: &mut ThinPage,
     request: Request,
     payload: &[u8],
     stop: usize,
-) -> Outcome
-    ensures answer { result ≡ appended image.old page request payload.now stop }
-    ensures image { image.new ≡ appended_image image.old page request payload.now stop }
+) -> Result<(), Refusal>
+    ensures answer { result ≡ (appended image.old page.old request payload.now stop).answer }
+    ensures page { page.new ≡ (appended image.old page.old request payload.now stop).page }
+    ensures image { image.new ≡ appended_image image.old page.old request payload.now stop }
 {
     let Request {
         namespace,
@@ -117,11 +110,19 @@ fn same_entries(first: &[u8; 4096], second: &[u8; 4096], count: usize) -> bool
 }
 
 impl Sector {
+    // `append_item` to it.
+    fn append(&mut self, request: Request, payload: &[u8], stop: usize) -> Result<(), Refusal>
+        ensures answer { result ≡ (left_after self.old request payload.now stop).answer }
+        ensures sector { self.new ≡ (left_after self.old request payload.now stop).sector }
+    {
+        append_item(&mut self.image, &mut self.page, request, payload, stop)
+    }
+
     // Whether it has the items of another, with the bytes of all entries that are not free there.
     fn has_items_of(&self, wanted: &Sector) -> bool
         ensures { result ≡ same_sector self.now wanted.now }
     {
-        let count = page_write::get_next_free_entry(wanted.page);
+        let count = wanted.page.get_next_free_entry();
         same_items(&self.page, &wanted.page) && same_entries(&self.image, &wanted.image, count)
     }
 }
@@ -129,15 +130,17 @@ impl Sector {
 impl Cut {
     // What it left, by the sectors before the append and after it: opening answers Done and finds the one's items, or the other's.
     pub fn found_in(&self, before: &Sector, after: &Sector) -> Found
-        ensures { result ≡ found_in before.now after.now self.now }
+        ensures { result ≡ found_in before.now after.now (cut_of self.now) }
     {
-        if !answers::is_done(self.opened) {
+        let Ok(page) = self.opened else {
             return Found::Otherwise;
-        }
-        if self.sector.has_items_of(before) {
+        };
+        let image = self.image;
+        let sector = Sector { image, page };
+        if sector.has_items_of(before) {
             return Found::Absent;
         }
-        if self.sector.has_items_of(after) {
+        if sector.has_items_of(after) {
             return Found::Whole;
         }
         Found::Otherwise
@@ -147,51 +150,36 @@ impl Cut {
 // ---- all the cuts
 
 impl Append<'_> {
-    // The append stopped after `stop` units.
-    fn left_after(&self, stop: usize) -> Finished
-        ensures { result ≡ left_after self.now.before self.now.request self.now.payload.now stop }
-    {
-        let mut image = self.before.image;
-        let outcome = append_item(
-            &mut image,
-            self.before.page,
-            self.request,
-            self.payload,
-            stop,
-        );
-        let sector = Sector {
-            image,
-            page: outcome.page,
-        };
-        Finished {
-            answer: outcome.answer,
-            sector,
-        }
-    }
-
     // The append stopped after `stop` units, and the page opened then.
     pub fn cut_after(&self, stop: usize) -> Cut
-        ensures { result ≡ cut_after self.now.before self.now.request self.now.payload.now stop }
+        ensures { cut_of result ≡ cut_after self.now.before self.now.request self.now.payload.now stop }
     {
-        let left = self.left_after(stop);
-        let mut image = left.sector.image;
-        let opened = opening::open_page(&mut image);
-        let sector = Sector {
-            image,
-            page: opened.page,
-        };
+        let mut left = self.before;
+        let answer = left.append(self.request, self.payload, stop);
+        let opened = opening::open_page(&mut left.image);
+        let image = left.image;
         Cut {
-            answer: left.answer,
-            opened: opened.answer,
-            sector,
+            answer,
+            image,
+            opened,
         }
     }
 
-    // The append that nothing stops.
-    pub fn finish(&self) -> Finished
-        ensures { result ≡ finished_by self.now.before self.now.request self.now.payload.now }
+    // The append that nothing stops: the sector that it leaves. One that is refused leaves it as it was.
+    pub fn finish(&self) -> Result<Sector, Refusal>
+        ensures { result ≡ value_where_done (finished_by self.now.before self.now.request self.now.payload.now).answer (finished_by self.now.before self.now.request self.now.payload.now).sector }
     {
-        self.left_after(MOST)
+        let mut sector = self.before;
+        sector.append(self.request, self.payload, MOST)?;
+        Ok(sector)
+    }
+
+    // Whether it is stopped after `stop` units.
+    fn is_stopped(&self, stop: usize) -> bool
+        ensures { result ≡ is_stopped self.now.before self.now.request self.now.payload.now stop }
+    {
+        let mut sector = self.before;
+        sector.append(self.request, self.payload, stop) == Err(Refusal::Stopped)
     }
 
     // The units of the append: the first n at which it is not stopped; 0 where it is refused.
@@ -199,9 +187,7 @@ impl Append<'_> {
         ensures count { result ≡ unit_count self.now.before self.now.request self.now.payload.now }
         ensures most { result ≤ 1100 }
     {
-        (0..MOST)
-            .find(|n| answers::number_of(self.left_after(*n).answer) != STOPPED)
-            .unwrap_or(MOST)
+        (0..MOST).find(|n| !self.is_stopped(*n)).unwrap_or(MOST)
     }
 
     // What is found when the append is cut after n units.

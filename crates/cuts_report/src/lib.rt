@@ -10,7 +10,7 @@ mod show;
 use cuts_append::{Append, Sector};
 use cuts_request::Value;
 use refused::Refused;
-use sector::{SECTOR_SIZE, answers};
+use sector::SECTOR_SIZE;
 use std::env::FillError;
 use std::io;
 use std::rt::{Env, Files};
@@ -31,14 +31,8 @@ pub struct Words<'a> {
 
 // The page that opening leaves of an image.
 fn opened(mut image: [u8; 4096]) -> Result<Sector, Refused> {
-    let opened = opening::open_page(&mut image);
-    if !answers::is_done(opened.answer) {
-        return Err(Refused::Opening(opened.answer));
-    }
-    Ok(Sector {
-        image,
-        page: opened.page,
-    })
+    let page = opening::open_page(&mut image).map_err(Refused::Opening)?;
+    Ok(Sector { image, page })
 }
 
 // The append that the words ask for. Of a longer file of data 4,096 bytes are taken, which is too long too.

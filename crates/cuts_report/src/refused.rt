@@ -3,7 +3,7 @@ use crate::Words;
 use crate::files::Unusable;
 use crate::show::{Grouped, Reason};
 use cuts_request::Wrong;
-use sector::Answer;
+use sector::Refusal;
 use std::io;
 
 // What is refused first.
@@ -13,8 +13,7 @@ pub(crate) enum Refused {
     // The file of the image, or of the data.
     Image(Unusable),
     Data(Unusable),
-    // Opening's answer.
-    Opening(Answer),
+    Opening(Refusal),
 }
 
 impl From<Wrong> for Refused {
@@ -88,10 +87,10 @@ pub(crate) fn print(rt: &impl Print, words: Words, refused: Refused) -> io::Resu
         Refused::Word(wrong) => print_wrong(rt, words, wrong),
         Refused::Image(unusable) => print_unusable(rt, words.image, unusable),
         Refused::Data(unusable) => print_unusable(rt, words.value, unusable),
-        Refused::Opening(answer) => {
+        Refused::Opening(refusal) => {
             print!(rt; "cuts: ")?;
             rt.write_all(words.image)?;
-            println!(rt; ": opening refuses the page, {}", Reason(answer))
+            println!(rt; ": opening refuses the page, {}", Reason(refusal))
         }
     }
 }

@@ -2,7 +2,7 @@
 ghost use Rattle.std.specs.Prelude.{◌≤◌};
 
 use cuts_append::{Append, Found, Sector};
-use sector::{Answer, answers};
+use sector::Refusal;
 use std::{fmt, io};
 
 // A number, with a comma after the thousands.
@@ -20,19 +20,19 @@ impl fmt::Display for Grouped {
 
 // A refusal's number and name, and when it comes: those that an append, or opening a sector, gives to a record that opening read.
 #[derive(Clone, Copy)]
-pub(crate) struct Reason(pub(crate) Answer);
+pub(crate) struct Reason(pub(crate) Refusal);
 
 impl fmt::Display for Reason {
     fn fmt<W: fmt::Write>(&self, f: &mut fmt::Formatter<W>) -> fmt::Result {
-        write!(f, "{}", answers::number_of(self.0))?;
+        write!(f, "{}", self.0.number())?;
         f.write_str(match self.0 {
-            Answer::WrongState => " WrongState: the page is not Active",
-            Answer::BadRequest => {
+            Refusal::WrongState => " WrongState: the page is not Active",
+            Refusal::BadRequest => {
                 " BadRequest: the type is none that an append takes, or the item has data and is in namespace 0"
             }
-            Answer::ValueTooLong => " ValueTooLong: the item takes more than 126 entries",
-            Answer::PageFull => " PageFull: the item takes more entries than are free",
-            Answer::CorruptedData => " CorruptedData: the header is not that of an open page",
+            Refusal::ValueTooLong => " ValueTooLong: the item takes more than 126 entries",
+            Refusal::PageFull => " PageFull: the item takes more entries than are free",
+            Refusal::CorruptedData => " CorruptedData: the header is not that of an open page",
             _ => "",
         })
     }
@@ -84,12 +84,12 @@ fn ranges(
 
 // All the cuts of an append, or why it is refused.
 pub(crate) fn cuts(rt: &impl Print, name: &[u8], append: &Append) -> io::Result<()> {
-    let finished = append.finish();
-    if !answers::is_done(finished.answer) {
-        return println!(rt; ": the append is refused, {}", Reason(finished.answer));
-    }
+    let after = match append.finish() {
+        Ok(after) => after,
+        Err(refusal) => return println!(rt; ": the append is refused, {}", Reason(refusal)),
+    };
     let units = append.count_units();
     println!(rt; ": {} units", Grouped(units))?;
-    let otherwise = ranges(rt, name, append, &finished.sector, units)?;
+    let otherwise = ranges(rt, name, append, &after, units)?;
     println!(rt; "{} cuts found otherwise", Grouped(otherwise))
 }
