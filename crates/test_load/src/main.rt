@@ -6,7 +6,6 @@
 
 mod found;
 mod images;
-mod loading;
 mod payloads;
 mod type_bytes;
 

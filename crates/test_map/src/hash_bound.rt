@@ -1,5 +1,4 @@
 // The hash bound, over pages of a few items.
-
 use std::io;
 
 fn entry(namespace: u8, span: u8) -> [u8; 32] {
@@ -24,47 +23,91 @@ fn bound_of_nine() -> usize {
     call_hash_bound::hashed_item_bound(map, entries)
 }
 
-// A map of one byte but for the last, and entries of one span but for the last.
-fn bound_of(byte: u8, end: u8, namespace: u8, span: u8, last: u8) -> usize {
-    let mut map = [byte; 32];
-    map[31] = end;
-    let mut entries = [entry(namespace, span); 126];
-    entries[125] = entry(namespace, last);
-    call_hash_bound::hashed_item_bound(map, entries)
-}
-
-fn print_bound(
-    rt: &impl Print,
+// A page whose map is one byte but for the last, and whose entries are in one namespace and of one span but for the last.
+#[derive(Clone, Copy)]
+struct Alike {
     byte: u8,
     end: u8,
     namespace: u8,
     span: u8,
     last: u8,
-) -> io::Result<()> {
-    let bound = bound_of(byte, end, namespace, span, last);
-    test_print::line(
-        rt,
-        b"hash bound, map $, last byte $, namespace #, span #, at 125 span #: #\n",
-        [
-            byte as u64,
-            end as u64,
-            namespace as u64,
-            span as u64,
-            last as u64,
-            bound as u64,
-            0,
-        ],
-    )
+}
+
+const EMPTY: Alike = Alike {
+    byte: 0xFF,
+    end: 0xFF,
+    namespace: 1,
+    span: 1,
+    last: 1,
+};
+
+const WRITTEN: Alike = Alike {
+    byte: 0xAA,
+    end: 0xAA,
+    ..EMPTY
+};
+
+fn bound_of(page: Alike) -> usize {
+    let mut map = [page.byte; 32];
+    map[31] = page.end;
+    let mut entries = [entry(page.namespace, page.span); 126];
+    entries[125] = entry(page.namespace, page.last);
+    call_hash_bound::hashed_item_bound(map, entries)
+}
+
+fn print_bounds(rt: &impl Print, pages: &[Alike]) -> io::Result<()> {
+    for page in pages {
+        let Alike {
+            byte,
+            end,
+            namespace,
+            span,
+            last,
+        } = *page;
+        let bound = bound_of(*page);
+        println!(rt;
+            "hash bound, map {byte:#04x}, last byte {end:#04x}, namespace {namespace}, span {span}, at 125 span {last}: {bound}"
+        )?;
+    }
+    Ok(())
 }
 
 pub(crate) fn print_all(rt: &impl Print) -> io::Result<()> {
-    print_bound(rt, 0xFF, 0xFF, 1, 1, 1)?;
-    print_bound(rt, 0xAA, 0xAA, 1, 1, 1)?;
-    print_bound(rt, 0xAA, 0xAA, 0, 1, 1)?;
-    print_bound(rt, 0xAA, 0xAA, 1, 126, 126)?;
-    print_bound(rt, 0xAA, 0xAA, 1, 127, 127)?;
-    test_print::number(rt, b"hash bound, nine entries: ", bound_of_nine() as u64)?;
-    test_print::text(rt, b"\n")?;
-    print_bound(rt, 0xFF, 0xFA, 1, 2, 1)?;
-    print_bound(rt, 0xFF, 0xFA, 1, 3, 1)
+    print_bounds(
+        rt,
+        &[
+            EMPTY,
+            WRITTEN,
+            Alike {
+                namespace: 0,
+                ..WRITTEN
+            },
+            Alike {
+                span: 126,
+                last: 126,
+                ..WRITTEN
+            },
+            Alike {
+                span: 127,
+                last: 127,
+                ..WRITTEN
+            },
+        ],
+    )?;
+    println!(rt; "hash bound, nine entries: {}", bound_of_nine())?;
+    print_bounds(
+        rt,
+        &[
+            Alike {
+                end: 0xFA,
+                span: 2,
+                ..EMPTY
+            },
+            Alike {
+                end: 0xFA,
+                span: 3,
+                ..EMPTY
+            },
+        ],
+    )
 }

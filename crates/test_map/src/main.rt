@@ -11,7 +11,6 @@ use std::io;
 
 fn main(rt: HostRuntime) -> io::Result<()> {
     maps::print_all(&rt)?;
-    fitness::print_active(&rt)?;
-    fitness::print_blanks(&rt)?;
+    fitness::print_all(&rt)?;
     hash_bound::print_all(&rt)
 }

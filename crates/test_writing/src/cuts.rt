@@ -1,70 +1,65 @@
 // Calls cut by a stop, and what opening then finds.
+use call_append::Single;
+use page::ThinPage;
+use sector::Refusal;
 use std::io;
-use test_writing_cases::calls::Call;
-use test_writing_cases::records::Sector;
-use test_writing_cases::{calls, lines, records};
+use test_writing_cases::items::{DATA, SINGLE};
+use test_writing_cases::records::{Sector, Stage};
+use test_writing_cases::{lines, records};
 
-fn open(rt: &impl Print, sector: Sector, at: usize) -> io::Result<Sector> {
-    let mut image = sector.image;
-    let outcome = opening::open_page(&mut image);
-    let answer = outcome.answer;
-    let page = outcome.page;
-    let opened = Sector {
-        answer,
-        image,
-        page,
-    };
-    test_print::text(rt, b"then opened")?;
-    lines::print(rt, opened, at)?;
-    Ok(opened)
+// A refused opening hands back no record: the Uninitialized one stands for it.
+pub(crate) fn open(sector: &mut Sector) -> Result<(), Refusal> {
+    let opened = opening::open_page(&mut sector.image);
+    sector.page = opened.unwrap_or(ThinPage::uninitialized());
+    opened.map(|_| ())
 }
 
-fn initialise(rt: &impl Print, n: usize) -> io::Result<()> {
-    test_print::number(rt, b"initialise, cut at ", n as u64)?;
-    let cut = calls::after(records::empty(0xFF), Call::Initialise, n);
-    lines::print(rt, cut, 0)?;
-    open(rt, cut, 0)?;
+fn print_opened(rt: &impl Print, sector: &mut Sector, at: usize) -> io::Result<()> {
+    let answer = open(sector);
+    print!(rt; "then opened")?;
+    lines::print(rt, answer, sector, at)
+}
+
+fn cut_initialise(rt: &impl Print) -> io::Result<()> {
+    for n in [0usize, 1, 7, 8] {
+        let mut sector = records::empty(Stage::Blank);
+        let answer = call_page_state::initialize(&mut sector.image, &mut sector.page, 1, n);
+        print!(rt; "initialise, cut at {n}")?;
+        lines::print(rt, answer, &sector, 0)?;
+        print_opened(rt, &mut sector, 0)?;
+    }
     Ok(())
 }
 
 fn fifteen_singles() -> Sector {
-    let mut sector = records::empty(0xFE);
+    let mut sector = records::empty(Stage::Active);
     for chunk in 0..15u8 {
-        let single = Call::Single {
-            kind: 0x01,
-            span: 1,
-            chunk,
-        };
-        sector = calls::after(sector, single, 9);
+        let item = Single { chunk, ..SINGLE };
+        let _ = call_append::write_item(&mut sector.image, &mut sector.page, item, 9);
     }
     sector
 }
 
-fn data(rt: &impl Print, n: usize) -> io::Result<()> {
-    test_print::number(rt, b"32 bytes at next free 15, cut at ", n as u64)?;
-    let call = Call::Variable {
-        namespace: 1,
-        kind: 0x21,
-        length: 32,
-        byte: 0x42,
-    };
-    let cut = calls::after(fifteen_singles(), call, n);
-    lines::print(rt, cut, 3)?;
-    let opened = open(rt, cut, 3)?;
-    open(rt, opened, 4)?;
+fn cut_data(rt: &impl Print) -> io::Result<()> {
+    let singles = fifteen_singles();
+    for n in [0usize, 1, 8, 9, 16, 17, 18] {
+        let mut sector = singles;
+        let answer = call_append_variable::write_variable_sized_item(
+            &mut sector.image,
+            &mut sector.page,
+            DATA,
+            &[0x42; 32],
+            n,
+        );
+        print!(rt; "32 bytes at next free 15, cut at {n}")?;
+        lines::print(rt, answer, &sector, 3)?;
+        print_opened(rt, &mut sector, 3)?;
+        print_opened(rt, &mut sector, 4)?;
+    }
     Ok(())
 }
 
 pub(crate) fn print_all(rt: &impl Print) -> io::Result<()> {
-    initialise(rt, 0)?;
-    initialise(rt, 1)?;
-    initialise(rt, 7)?;
-    initialise(rt, 8)?;
-    data(rt, 0)?;
-    data(rt, 1)?;
-    data(rt, 8)?;
-    data(rt, 9)?;
-    data(rt, 16)?;
-    data(rt, 17)?;
-    data(rt, 18)
+    cut_initialise(rt)?;
+    cut_data(rt)
 }

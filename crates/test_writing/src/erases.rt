@@ -1,58 +1,50 @@
 // Erase: data of a page, and entries that are none.
 use std::io;
-use test_writing_cases::calls::Call;
-use test_writing_cases::{calls, lines, records};
+use test_writing_cases::items::DATA;
+use test_writing_cases::records::Stage;
+use test_writing_cases::{lines, records};
 
-fn print_name(
+// On a page with this data, where its state lets one append, of which entries were erased before: 0 is none.
+fn print_erase(
     rt: &impl Print,
-    state: u8,
-    length: usize,
+    stage: Stage,
+    payload: &[u8],
     before: usize,
     index: usize,
     span: usize,
 ) -> io::Result<()> {
-    test_print::number(rt, b"erase, data of length ", length as u64)?;
-    test_print::byte(rt, b" on state ", state)?;
-    test_print::number(rt, b", erased before ", before as u64)?;
-    test_print::number(rt, b", index ", index as u64)?;
-    test_print::number(rt, b", span ", span as u64)
+    let mut sector = records::empty(stage);
+    print!(rt;
+        "erase, data of length {} on state {:#04x}, erased before {before}, index {index}, span {span}",
+        payload.len(),
+        sector.image[0]
+    )?;
+    let _ = call_append_variable::write_variable_sized_item(
+        &mut sector.image,
+        &mut sector.page,
+        DATA,
+        payload,
+        1100,
+    );
+    let _ = call_erase::erase_item(&mut sector.image, &mut sector.page, 0, before);
+    let answer = call_erase::erase_item(&mut sector.image, &mut sector.page, index, span);
+    lines::print(rt, answer, &sector, 0)
 }
 
-// On a page with data of this length, where its state lets one append, of which entries were erased before: 0 is none.
-fn erase(
-    rt: &impl Print,
-    state: u8,
-    length: usize,
-    before: usize,
-    index: usize,
-    span: usize,
-) -> io::Result<()> {
-    print_name(rt, state, length, before, index, span)?;
-    let data = Call::Variable {
-        namespace: 1,
-        kind: 0x21,
-        length,
-        byte: 0x42,
-    };
-    let written = calls::after(records::empty(state), data, 1100);
-    let first = Call::Erase {
-        index: 0,
-        span: before,
-    };
-    let sector = calls::after(written, first, 0);
-    lines::print(rt, calls::after(sector, Call::Erase { index, span }, 0), 0)
-}
-
-// State of the page, length of its data and entries erased before; index and span.
+// The entries erased before; index and span.
 pub(crate) fn print_all(rt: &impl Print) -> io::Result<()> {
-    erase(rt, 0xFE, 33, 0, 0, 3)?;
-    erase(rt, 0xFE, 33, 0, 0, 4)?;
-    erase(rt, 0xFE, 33, 0, 3, 1)?;
-    erase(rt, 0xFE, 33, 0, 0, 0)?;
-    erase(rt, 0xFE, 33, 0, 125, 1)?;
-    erase(rt, 0xFE, 33, 0, 125, 2)?;
-    erase(rt, 0xFE, 33, 0, 126, 1)?;
-    erase(rt, 0xFE, 33, 3, 0, 3)?;
-    erase(rt, 0xFE, 4000, 0, 0, 126)?;
-    erase(rt, 0xFF, 0, 0, 0, 0)
+    for (before, index, span) in [
+        (0usize, 0usize, 3usize),
+        (0, 0, 4),
+        (0, 3, 1),
+        (0, 0, 0),
+        (0, 125, 1),
+        (0, 125, 2),
+        (0, 126, 1),
+        (3, 0, 3),
+    ] {
+        print_erase(rt, Stage::Active, &[0x42; 33], before, index, span)?;
+    }
+    print_erase(rt, Stage::Active, &[0x42; 4000], 0, 0, 126)?;
+    print_erase(rt, Stage::Blank, &[], 0, 0, 0)
 }

@@ -1,79 +1,65 @@
 // Purge: the bytes that become zero in an erased image; and by namespace, which items still load.
+use call_append::Variable;
 use std::io;
-use test_writing_cases::calls::Call;
-use test_writing_cases::records::Sector;
-use test_writing_cases::{calls, records};
+use test_print::Numbered;
+use test_writing_cases::items::{DATA, SINGLE};
+use test_writing_cases::records;
+use test_writing_cases::records::{Sector, Stage};
 
-fn purge(rt: &impl Print, index: usize, span: usize) -> io::Result<()> {
-    let mut image = [0xFFu8; 4096];
-    let answer = call_purge::purge_entries(&mut image, index, span);
-    test_print::number(rt, b"purge, index ", index as u64)?;
-    test_print::number(rt, b", span ", span as u64)?;
-    test_print::answered(rt, b": answer ", answer)?;
-    test_print::number(rt, b", bytes ", test_print::count_equal(&image, 0))?;
-    test_print::text(rt, b"\n")
+fn print_purges(rt: &impl Print) -> io::Result<()> {
+    for (index, span) in [(125usize, 9usize), (126, 9), (0, 0), (0, 2), (0, 127)] {
+        let mut image = [0xFFu8; 4096];
+        let answer = Numbered(call_purge::purge_entries(&mut image, index, span));
+        let zeros = image.iter().filter(|&&byte| byte == 0).count();
+        println!(rt; "purge, index {index}, span {span}: answer {answer}, bytes {zeros}")?;
+    }
+    Ok(())
 }
 
 // Entries 0 and 4 in namespace 1, entries 1 to 3 one item of namespace 2.
 fn three_items() -> Sector {
-    let single = Call::Single {
-        kind: 0x01,
-        span: 1,
-        chunk: 255,
-    };
-    let first = calls::after(records::empty(0xFE), single, 9);
-    let data = Call::Variable {
+    let data = Variable {
         namespace: 2,
-        kind: 0x21,
-        length: 33,
-        byte: 0x42,
+        ..DATA
     };
-    calls::after(calls::after(first, data, 18), single, 9)
-}
-
-fn print_load(rt: &impl Print, image: &[u8], index: usize) -> io::Result<()> {
-    let loaded = call_load::load_item(image, index);
-    let answer = loaded.answer;
-    test_print::number(rt, b", entry ", index as u64)?;
-    test_print::answered(rt, b" loads ", answer)
-}
-
-fn print_purged(rt: &impl Print, sector: Sector, namespace: u8) -> io::Result<()> {
-    let purged = calls::after(sector, Call::Purge { namespace }, 0);
-    test_print::number(rt, b", namespace ", test_print::wide(namespace))?;
-    let answer = purged.answer;
-    test_print::answered(rt, b": answer ", answer)?;
-    let image = purged.image;
-    print_load(rt, &image, 0)?;
-    print_load(rt, &image, 1)?;
-    print_load(rt, &image, 4)?;
-    test_print::text(rt, b"\n")
+    let Sector {
+        mut image,
+        mut page,
+    } = records::empty(Stage::Active);
+    let _ = call_append::write_item(&mut image, &mut page, SINGLE, 9);
+    let _ = call_append_variable::write_variable_sized_item(
+        &mut image,
+        &mut page,
+        data,
+        &[0x42; 33],
+        18,
+    );
+    let _ = call_append::write_item(&mut image, &mut page, SINGLE, 9);
+    Sector { image, page }
 }
 
 // After an erase of this many entries from 0 on, and from 1 on: 0 is none.
-fn purge_namespace(rt: &impl Print, first: usize, second: usize, namespace: u8) -> io::Result<()> {
-    test_print::number(rt, b"purge by namespace, erased at 0 ", first as u64)?;
-    test_print::number(rt, b", at 1 ", second as u64)?;
-    let one = Call::Erase {
-        index: 0,
-        span: first,
-    };
-    let two = Call::Erase {
-        index: 1,
-        span: second,
-    };
-    let erased = calls::after(calls::after(three_items(), one, 0), two, 0);
-    print_purged(rt, erased, namespace)
+fn print_by_namespace(rt: &impl Print) -> io::Result<()> {
+    for (first, second, namespace) in [(0usize, 0usize, 1u8), (1, 3, 1), (1, 3, 2), (1, 3, 3)] {
+        let Sector {
+            mut image,
+            mut page,
+        } = three_items();
+        let _ = call_erase::erase_item(&mut image, &mut page, 0, first);
+        let _ = call_erase::erase_item(&mut image, &mut page, 1, second);
+        let answer = call_purge_namespace::purge_erased_for_namespace(&mut image, &page, namespace);
+        println!(rt;
+            "purge by namespace, erased at 0 {first}, at 1 {second}, namespace {namespace}: answer {}, entry 0 loads {}, entry 1 loads {}, entry 4 loads {}",
+            Numbered(answer),
+            Numbered(call_load::load_item(&image, 0)),
+            Numbered(call_load::load_item(&image, 1)),
+            Numbered(call_load::load_item(&image, 4))
+        )?;
+    }
+    Ok(())
 }
 
 pub(crate) fn print_all(rt: &impl Print) -> io::Result<()> {
-    purge(rt, 125, 9)?;
-    purge(rt, 126, 9)?;
-    purge(rt, 0, 0)?;
-    purge(rt, 0, 2)?;
-    purge(rt, 0, 127)?;
-    purge_namespace(rt, 0, 0, 1)?;
-    purge_namespace(rt, 1, 3, 1)?;
-    purge_namespace(rt, 1, 3, 2)?;
-    purge_namespace(rt, 1, 3, 3)
+    print_purges(rt)?;
+    print_by_namespace(rt)
 }

@@ -1,186 +1,123 @@
 // An item of every type byte, its CRC made over that byte and over 0xFF, through each call that asks whether it loads.
-ghost use Rattle.std.specs.Prelude.{◌≤◌, IfOk};
-
-use sector::{Answer, ENTRY_SIZE, ITEMS_OFFSET, MAP_OFFSET, answers};
+use crate::copies::Source;
+use crate::cuts;
+use sector::{ENTRY_SIZE, ITEMS_OFFSET, MAP_OFFSET, Refusal, bytes};
 use std::io;
-use test_writing_cases::calls::Call;
-use test_writing_cases::records::Sector;
-use test_writing_cases::{calls, records};
+use test_print::{Numbered, not_unless};
+use test_writing_cases::records;
+use test_writing_cases::records::{Sector, Stage};
 
 // What the calls make of an item.
 #[derive(Clone, Copy)]
 struct Trial {
-    load: Answer,
-    data: Answer,
-    copy: Answer,
+    load: Result<[u8; 32], Refusal>,
+    data: Result<usize, Refusal>,
+    copy: Result<(), Refusal>,
     kept: bool,
     erased: bool,
     purged: bool,
 }
 
-// An item of span 1 in namespace 1. Its payload, where its type has one, is empty.
-fn item(made: u8, kind: u8) -> [u8; 32] {
+// A page whose first entry is Written: an item of span 1 in namespace 1. Its payload, where its type has one, is empty.
+fn page_with(made: u8, kind: u8) -> Sector {
     let data = sector_item::sized_data(&[]);
     let mut entry = sector_item::item_bytes(1, made, 1, 255, [0x74; 16], data);
     entry[1] = kind;
-    entry
+    let mut sector = records::empty(Stage::Active);
+    bytes::put(&mut sector.image, MAP_OFFSET, &[0xFE]);
+    bytes::put(&mut sector.image, ITEMS_OFFSET, &entry);
+    sector
 }
 
-// The page with this entry as its first, which is Written.
-fn with_first(image: [u8; 4096], entry: [u8; 32]) -> [u8; 4096] {
-    let mut page = image;
-    sector::bytes::put(&mut page, MAP_OFFSET, &[0xFE]);
-    sector::bytes::put(&mut page, ITEMS_OFFSET, &entry);
-    page
-}
-
-fn load_of(image: &[u8]) -> Answer {
-    call_load::load_item(image, 0).answer
-}
-
-fn data_of(image: &[u8]) -> Answer {
-    let mut output = [0u8; 4];
-    call_load_data::load_referenced_data_into(image, 0, &mut output).answer
-}
-
-fn copy_of(made: u8, kind: u8) -> Answer {
-    let copy = Call::Copy {
+fn copy_of(made: u8, kind: u8) -> Result<(), Refusal> {
+    let source = Source {
         rest: 0xFF,
         place: 0,
         made,
         kind,
         span: 1,
-        index: 0,
-    };
-    calls::after(records::empty(0xFE), copy, 9).answer
-}
-
-fn opened(image: [u8; 4096]) -> Sector {
-    let mut left = image;
-    let outcome = opening::open_page(&mut left);
-    let answer = outcome.answer;
-    let page = outcome.page;
-    Sector {
-        answer,
-        image: left,
-        page,
     }
-}
-
-fn is_zeroed(image: [u8; 4096]) -> bool {
-    test_print::count_equal(&image[ITEMS_OFFSET..ITEMS_OFFSET + ENTRY_SIZE], 0) == 32
+    .image();
+    let mut sector = records::empty(Stage::Active);
+    call_copy::copy_item_from(&mut sector.image, &mut sector.page, &source, 0, 9)
 }
 
 // Whether purging its namespace zeroes the entry, once it is Erased. Opening has marked it so where it kept no item.
-fn is_purged(sector: Sector) -> bool {
-    let erase = Call::Erase { index: 0, span: 1 };
-    let purge = Call::Purge { namespace: 1 };
-    let purged = calls::after(calls::after(sector, erase, 0), purge, 0);
-    let image = purged.image;
-    is_zeroed(image)
+fn is_purged(opened: &Sector) -> bool {
+    let Sector {
+        mut image,
+        mut page,
+    } = *opened;
+    let _ = call_erase::erase_item(&mut image, &mut page, 0, 1);
+    let _ = call_purge_namespace::purge_erased_for_namespace(&mut image, &page, 1);
+    image[ITEMS_OFFSET..ITEMS_OFFSET + ENTRY_SIZE]
+        .iter()
+        .all(|&byte| byte == 0)
 }
 
 fn tried(made: u8, kind: u8) -> Trial {
-    let fresh = records::empty(0xFE);
-    let blank = fresh.image;
-    let image = with_first(blank, item(made, kind));
-    let read = opened(image);
-    let page = read.page;
+    let mut sector = page_with(made, kind);
+    let load = call_load::load_item(&sector.image, 0);
+    let data = call_load_data::load_referenced_data_into(&sector.image, 0, &mut [0; 4]);
+    let _ = cuts::open(&mut sector);
     Trial {
-        load: load_of(&image),
-        data: data_of(&image),
+        load,
+        data,
         copy: copy_of(made, kind),
-        kept: page.used == 1,
-        erased: page.erased == 1,
-        purged: is_purged(read),
+        kept: sector.page.used == 1,
+        erased: sector.page.erased == 1,
+        purged: is_purged(&sector),
     }
-}
-
-fn is_not_found(answer: Answer) -> bool {
-    answers::number_of(answer) == 7
 }
 
 // No call takes it for an item, and opening, which is done, marks the entry Erased.
-fn is_no_item(trial: Trial) -> bool {
-    let load = trial.load;
-    let data = trial.data;
-    let copy = trial.copy;
-    if !is_not_found(load) {
-        return false;
-    }
-    if !is_not_found(data) {
-        return false;
-    }
-    if !is_not_found(copy) {
-        return false;
-    }
-    if trial.kept {
-        return false;
-    }
-    if !trial.erased {
-        return false;
-    }
-    !trial.purged
-}
-
-fn print_trial(rt: &impl Print, made: u8, kind: u8, trial: Trial) -> io::Result<()> {
-    let load = trial.load;
-    let data = trial.data;
-    let copy = trial.copy;
-    test_print::byte(rt, b"type ", kind)?;
-    test_print::byte(rt, b", CRC over ", made)?;
-    test_print::answered(rt, b": load answer ", load)?;
-    test_print::answered(rt, b", load data answer ", data)?;
-    test_print::answered(rt, b", copy answer ", copy)?;
-    test_print::line(
-        rt,
-        b", ?kept by opening, ?erased by it, ?purged\n",
-        [
-            trial.kept as u64,
-            trial.erased as u64,
-            trial.purged as u64,
-            0,
-            0,
-            0,
-            0,
-        ],
+fn is_no_item(trial: &Trial) -> bool {
+    matches!(
+        trial,
+        Trial {
+            load: Err(Refusal::KeyNotFound),
+            data: Err(Refusal::KeyNotFound),
+            copy: Err(Refusal::KeyNotFound),
+            kept: false,
+            erased: true,
+            purged: false,
+        }
     )
 }
 
-// 1 for what is no item. Anything else gets its line.
-fn one_if_none(rt: &impl Print, made: u8, kind: u8) -> io::Result<u64>
-    ensures { IfOk result (λ count. count ≤ 1) }
+fn print_trial(rt: &impl Print, made: u8, kind: u8, trial: &Trial) -> io::Result<()> {
+    println!(rt;
+        "type {kind:#04x}, CRC over {made:#04x}: load answer {}, load data answer {}, copy answer {}, {}kept by opening, {}erased by it, {}purged",
+        Numbered(trial.load),
+        Numbered(trial.data),
+        Numbered(trial.copy),
+        not_unless(trial.kept),
+        not_unless(trial.erased),
+        not_unless(trial.purged)
+    )
+}
+
+// How many of the type bytes are those of no item, with the CRC made over what the closure gives of each. Any other gets its line.
+fn count_others<F: Fn(u8) -> u8>(rt: &impl Print, made_over: F) -> io::Result<usize>
+    requires { F.IsAlwaysCallable made_over }
 {
-    let trial = tried(made, kind);
-    if is_no_item(trial) {
-        return Ok(1);
+    let mut others: usize = 0;
+    for kind in 0..=255u8 {
+        let made = made_over(kind);
+        let trial = tried(made, kind);
+        if is_no_item(&trial) {
+            others += 1;
+        } else {
+            print_trial(rt, made, kind, &trial)?;
+        }
     }
-    print_trial(rt, made, kind, trial)?;
-    Ok(0)
-}
-
-fn made_over(itself: bool, kind: u8) -> u8 {
-    if itself {
-        return kind;
-    }
-    0xFF
-}
-
-// Over all type bytes, with the CRC made over each itself, or over 0xFF.
-fn count_none(rt: &impl Print, itself: bool) -> io::Result<u64> {
-    let mut count: u64 = 0;
-    for value in 0..256u32 {
-        count += one_if_none(rt, made_over(itself, value as u8), value as u8)?;
-    }
-    Ok(count)
+    Ok(others)
 }
 
 pub(crate) fn print_all(rt: &impl Print) -> io::Result<()> {
-    let itself = count_none(rt, true)?;
-    let any = count_none(rt, false)?;
-    test_print::line(
-        rt,
-        b"other type bytes, which no call takes for an item: # with the CRC over the byte, # with the CRC over 0xff\n",
-        [itself, any, 0, 0, 0, 0, 0],
+    let itself = count_others(rt, |kind| kind)?;
+    let any = count_others(rt, |_| 0xFF)?;
+    println!(rt;
+        "other type bytes, which no call takes for an item: {itself} with the CRC over the byte, {any} with the CRC over 0xff"
     )
 }

@@ -1,31 +1,40 @@
 // Initialise and mark full.
-use crate::calls::Call;
-use crate::{calls, lines, records, units};
+use crate::records::Stage;
+use crate::{lines, records, units};
 use std::io;
 
 // An image that ends in this byte.
-fn initialise(rt: &impl Print, state: u8, last: u8) -> io::Result<()> {
-    test_print::byte(rt, b"initialise, last byte ", last)?;
-    lines::print_page(rt, state, 0, 0)?;
-    let mut sector = records::empty(state);
-    sector.image[4095] = last;
-    units::print_on(rt, sector, Call::Initialise, 0)
+fn print_initialise(rt: &impl Print) -> io::Result<()> {
+    for (last, stage) in [
+        (0xFFu8, Stage::Blank),
+        (0xFE, Stage::Blank),
+        (0xFF, Stage::Active),
+    ] {
+        let mut sector = records::empty(stage);
+        sector.image[4095] = last;
+        print!(rt; "initialise, last byte {last:#04x}")?;
+        units::print(
+            rt,
+            |image, page, n| call_page_state::initialize(image, page, 1, n),
+            sector,
+            0,
+        )?;
+    }
+    Ok(())
 }
 
-fn mark_full(rt: &impl Print, state: u8) -> io::Result<()> {
-    test_print::text(rt, b"mark full")?;
-    lines::print_page(rt, state, 0, 0)?;
-    lines::print(
-        rt,
-        calls::after(records::empty(state), Call::MarkFull, 0),
-        0,
-    )
+fn print_mark_full(rt: &impl Print) -> io::Result<()> {
+    for stage in [Stage::Active, Stage::Full] {
+        let mut sector = records::empty(stage);
+        print!(rt; "mark full")?;
+        lines::print_page(rt, &sector)?;
+        let answer = call_page_state::mark_as_full(&mut sector.image, &mut sector.page);
+        lines::print(rt, answer, &sector, 0)?;
+    }
+    Ok(())
 }
 
 pub(crate) fn print_all(rt: &impl Print) -> io::Result<()> {
-    initialise(rt, 0xFF, 0xFF)?;
-    initialise(rt, 0xFF, 0xFE)?;
-    initialise(rt, 0xFE, 0xFF)?;
-    mark_full(rt, 0xFE)?;
-    mark_full(rt, 0xFC)
+    print_initialise(rt)?;
+    print_mark_full(rt)
 }

@@ -1,70 +1,43 @@
 // Pages to try the calls on.
-use crate::calls;
-use crate::calls::Call;
-use page::{Listed, ThinPage};
-use sector::{Answer, PageState};
+use page::ThinPage;
 
-// A page, and what the call that left it so answered.
+// A page as it lies, and its record.
 #[derive(Clone, Copy)]
 pub struct Sector {
-    pub answer: Answer,
     pub image: [u8; 4096],
     pub page: ThinPage,
 }
 
-fn blank() -> Sector {
-    let place = Listed { hash: 0, index: 0 };
-    let page = ThinPage {
-        state: PageState::Uninitialized,
-        sequence: 0,
-        version: 0,
-        crc: 0,
-        map: [0xFF; 32],
-        used: 0,
-        erased: 0,
-        len: 0,
-        list: [place; 126],
+// How far a page with nothing in it has come: erased, then initialised, then marked full.
+#[derive(Clone, Copy)]
+pub enum Stage {
+    Blank,
+    Active,
+    Full,
+}
+
+// A page with nothing in it.
+pub fn empty(stage: Stage) -> Sector {
+    let mut image = [0xFFu8; 4096];
+    let mut page = ThinPage::uninitialized();
+    if matches!(stage, Stage::Active | Stage::Full) {
+        let _ = call_page_state::initialize(&mut image, &mut page, 1, 8);
+    }
+    if matches!(stage, Stage::Full) {
+        let _ = call_page_state::mark_as_full(&mut image, &mut page);
+    }
+    Sector { image, page }
+}
+
+// The same, of whose record these entries are used and erased. The last byte of its map holds entries 124 and 125.
+pub fn filled(stage: Stage, used: u8, erased: u8) -> Sector {
+    let mut sector = empty(stage);
+    sector.page.map[31] = match used {
+        0..125 => 0xFF,
+        125 => 0xFE,
+        _ => 0xFA,
     };
-    Sector {
-        answer: Answer::Done,
-        image: [0xFF; 4096],
-        page,
-    }
-}
-
-// A page with nothing in it whose state word has this first byte: 0xFF Uninitialized, 0xFE Active, 0xFC Full.
-pub fn empty(state: u8) -> Sector {
-    let blank = blank();
-    if state == 0xFF {
-        return blank;
-    }
-    let active = calls::after(blank, Call::Initialise, 8);
-    if state == 0xFE {
-        return active;
-    }
-    calls::after(active, Call::MarkFull, 0)
-}
-
-// The last byte of a map in which this many entries are Written: it holds entries 124 and 125.
-fn last_byte(used: u8) -> u8 {
-    if used < 125 {
-        return 0xFF;
-    }
-    if used == 125 {
-        return 0xFE;
-    }
-    0xFA
-}
-
-// The same, of whose record these entries are used and erased.
-pub(crate) fn filled(state: u8, used: u8, erased: u8) -> Sector {
-    let mut sector = empty(state);
-    let mut page = sector.page;
-    let mut map = page.map;
-    map[31] = last_byte(used);
-    page.map = map;
-    page.used = used;
-    page.erased = erased;
-    sector.page = page;
+    sector.page.used = used;
+    sector.page.erased = erased;
     sector
 }

@@ -1,39 +1,41 @@
 // The units of a call: it is stopped at every n, until it is not.
-use crate::calls::Call;
+use crate::lines;
 use crate::records::Sector;
-use crate::{calls, lines, records};
+use page::ThinPage;
+use sector::Refusal;
 use std::io;
-
-const STOPPED: u8 = 11;
 
 // More units than any call has.
 const MOST: usize = 1100;
 
-fn units(sector: Sector, call: Call) -> usize {
-    for n in 0..MOST {
-        let tried = calls::after(sector, call, n);
-        let answer = tried.answer;
-        if sector::answers::number_of(answer) != STOPPED {
-            return n;
-        }
-    }
-    MOST
+fn count<F: Fn(&mut [u8], &mut ThinPage, usize) -> Result<(), Refusal>>(
+    call: F,
+    sector: &Sector,
+) -> usize
+    requires { F.IsAlwaysCallable call }
+{
+    (0..MOST)
+        .find(|&n| {
+            let mut tried = *sector;
+            let answer = call(&mut tried.image, &mut tried.page, n);
+            !matches!(answer, Err(Refusal::Stopped))
+        })
+        .unwrap_or(MOST)
 }
 
-pub(crate) fn print_on(rt: &impl Print, sector: Sector, call: Call, at: usize) -> io::Result<()> {
-    let n = units(sector, call);
-    test_print::number(rt, b", units ", n as u64)?;
-    lines::print(rt, calls::after(sector, call, n), at)
-}
-
-pub fn print(
+// The page that a call is tried on, its units, and what it leaves.
+pub fn print<F: Fn(&mut [u8], &mut ThinPage, usize) -> Result<(), Refusal>>(
     rt: &impl Print,
-    call: Call,
-    state: u8,
-    used: u8,
-    erased: u8,
+    call: F,
+    sector: Sector,
     at: usize,
-) -> io::Result<()> {
-    lines::print_page(rt, state, used, erased)?;
-    print_on(rt, records::filled(state, used, erased), call, at)
+) -> io::Result<()>
+    requires { F.IsAlwaysCallable call }
+{
+    let units = count(&call, &sector);
+    lines::print_page(rt, &sector)?;
+    print!(rt; ", units {units}")?;
+    let mut left = sector;
+    let answer = call(&mut left.image, &mut left.page, units);
+    lines::print(rt, answer, &left, at)
 }
