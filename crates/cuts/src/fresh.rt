@@ -15,7 +15,6 @@ fn page() -> Sector {
     Sector { image, page }
 }
 
-
 fn curve() -> Request {
     Request {
         namespace: 1,

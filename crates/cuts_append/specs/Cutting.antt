@@ -77,7 +77,7 @@ left_after before request payload n =
 
 -- ---- the cut
 
--- what a stopped append answers; what opening answers then, and the sector that it leaves
+-- a cut: what the append answered, what opening then answered, and the sector that it left
 pub record Cut : Type 0 where
   pub answer : Answer
   pub opened : Answer

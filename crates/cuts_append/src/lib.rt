@@ -110,7 +110,7 @@ fn same_entries(first: &[u8; 4096], second: &[u8; 4096], count: usize) -> bool
 }
 
 impl Sector {
-    // `append_item` to it.
+    // Appends the item to it, as `append_item` does.
     fn append(&mut self, request: Request, payload: &[u8], stop: usize) -> Result<(), Refusal>
         ensures answer { result ≡ (left_after self.old request payload.now stop).answer }
         ensures sector { self.new ≡ (left_after self.old request payload.now stop).sector }

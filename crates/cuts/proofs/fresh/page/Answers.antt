@@ -2,7 +2,7 @@
 use Rattle.std.proofs.Common.{◌≡◌, refl, ◌∙◌, true, length, replicate}
 use Rattle.flash.specs.Flash.{all_ones}
 use Rattle.flash.proofs.Laws.{length-units_whole}
-use Rattle.sector.specs.Answers.{Answer, Done, accepted}
+use Rattle.sector.specs.Answers.{Done, accepted}
 use Rattle.sector.specs.Header.{header_bytes}
 use Rattle.sector.specs.Map.{count_in}
 use Rattle.page.specs.Record.{fit_to_use, uninitialized}

@@ -1,5 +1,5 @@
 -- `cut_after` meets its contract: where opening refuses, the definition has the Uninitialized record.
-use Rattle.std.proofs.Common.{◌≡◌, refl, List, ℕ}
+use Rattle.std.proofs.Common.{refl, List, ℕ}
 use Rattle.opening.specs.Opening.{opening}
 use Rattle.opening.proofs.Laws.{opening_none}
 use Rattle.sector.proofs.Laws.{answer_given}
