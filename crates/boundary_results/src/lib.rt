@@ -23,7 +23,7 @@ const NO_COUNTS: Statistics = Statistics {
 };
 
 // Lays out an answer with a number and an item, and hands back its number in document 01.
-fn give(buffer: &mut [u8], answer: Result<(), Refusal>, value: u64, item: [u8; 32]) -> u32
+pub fn give(buffer: &mut [u8], answer: Result<(), Refusal>, value: u64, item: [u8; 32]) -> u32
     requires { length buffer.old ≡ answer_size }
     ensures number { result ≡ number_of answer }
     ensures buffer { buffer.new ≡ answer_bytes (carried_byte answer) value item no_counts }

@@ -118,7 +118,7 @@ pub(crate) fn print_all(rt: &impl Print) -> io::Result<()> {
         ..DATA
     }
     .image();
-    appends::print_entry(rt, "copy, type 0xff", |image, page| {
+    appends::print_entry(rt, b"copy, type 0xff", |image, page| {
         call_copy::copy_item_from(image, page, &any, 0, 9)
     })
 }

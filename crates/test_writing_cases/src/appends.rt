@@ -55,14 +55,15 @@ fn print_singles(rt: &impl Print) -> io::Result<()> {
 // The entry that a call writes on an empty page, with a byte on either side.
 pub fn print_entry<F: FnOnce(&mut [u8], &mut ThinPage) -> Result<(), Refusal>>(
     rt: &impl Print,
-    name: &str,
+    name: &[u8],
     call: F,
 ) -> io::Result<()>
     requires { F.IsAlwaysCallable call }
 {
     let mut sector = records::empty(Stage::Active);
     let _ = call(&mut sector.image, &mut sector.page);
-    print!(rt; "{name}, bytes 63 to 96:")?;
+    rt.write_all(name)?;
+    print!(rt; ", bytes 63 to 96:")?;
     for byte in &sector.image[63..97] {
         print!(rt; " {byte:#04x}")?;
     }
@@ -75,10 +76,10 @@ fn print_entries(rt: &impl Print) -> io::Result<()> {
     };
     print!(rt; "namespace 7")?;
     units::print(rt, namespace, records::empty(Stage::Active), 0)?;
-    print_entry(rt, "single", |image, page| {
+    print_entry(rt, b"single", |image, page| {
         call_append::write_item(image, page, SINGLE, 9)
     })?;
-    print_entry(rt, "namespace 7", |image, page| namespace(image, page, 9))
+    print_entry(rt, b"namespace 7", |image, page| namespace(image, page, 9))
 }
 
 // Data of bytes 0x42 but for byte 32.
