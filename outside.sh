@@ -14,7 +14,7 @@ title() { # PART
     case $1 in
     rust_layout) echo 'the files of rust/, compare/ and bench/ are laid out as rustfmt does it' ;;
     picture) echo 'docs/house.svg is the picture that crates.txt gives' ;;
-    archive) echo 'boundary/archive.sh makes the archive' ;;
+    archive) echo 'boundary/archive.sh makes the archive, which needs memcpy and memset alone' ;;
     rust_tests) echo 'the tests of rust/ pass' ;;
     compare_tests) echo 'the tests of compare/ pass' ;;
     compare) echo 'our calls and the Rust agree on the same inputs' ;;
@@ -51,7 +51,12 @@ part_picture() {
 part_archive() {
     # An archive of an earlier run must not pass for this one's.
     rm -f "$archive"
-    boundary/archive.sh "$archive"
+    boundary/archive.sh "$archive" || return
+    # What the firmware that links it has to bring.
+    command -v nm || return 0
+    needs=$(nm -u "$archive" | awk '$1 == "U" { print $2 }' | sort -u | tr '\n' ' ')
+    echo "the archive needs: $needs"
+    [ "$needs" = 'memcpy memset ' ]
 }
 
 # Without an archive the tests of rust/ pass, and test no call.

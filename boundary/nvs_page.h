@@ -8,7 +8,7 @@
  * do not overlap.
  *
  * Link the archive that `boundary/archive.sh OUT.a` makes, for x86-64 Linux. It is the library of the crate `boundary_c`, which `rt lib`
- * builds in that crate's folder.
+ * builds in that crate's folder. It needs memcpy and memset, and nothing else from outside.
  */
 #ifndef NVS_PAGE_H
 #define NVS_PAGE_H

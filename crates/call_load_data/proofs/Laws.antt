@@ -5,7 +5,7 @@ use mathlib.Core.List.{List, [], ◌∷◌, ◌++◌}
 use Prim.Native.Nat.{ℕ, ◌+◌, ◌-◌, ◌*◌, ◌≤◌, ◌<◌}
 use native.Mathlib.Omega.{arith}
 use borrow.Author.Tests.{ltb-true, ltb-false, eqb-true, not-false}
-use lib.ListN.{length, take, drop, get_or}
+use lib.ListN.{length, take, drop, get_or, length-append, length-take, length-drop}
 use Rattle.std.specs.Prelude.{Result, Ok, Err, is_ok}
 use Rattle.sector.specs.declared.Refusal.{Refusal}
 use Rattle.sector.specs.declared.Refusal.TheVariants.{Stopped}
@@ -105,6 +105,11 @@ pub data_lies : (image : List ℕ) (i room : ℕ) {item : List ℕ} {size n star
     → size ≡ size_of item → n ≡ rounded_up size → start ≡ entry_address (i + 1) → start + n ≤ length image
 data_lies image i room reads s r a = rw (a, r, s, reads.same) (data_inside image i room reads.fits)
 
+-- and it fits the output
+pub data_room : (image : List ℕ) (i room : ℕ) {item : List ℕ} {size n : ℕ} → Reads image i room item
+    → size ≡ size_of item → n ≡ rounded_up size → n ≤ room
+data_room image i room reads s r = rw (r, s, reads.same) reads.fits.room_fits
+
 -- as many bytes from there on are copied to the start of the output
 pub data_read : (image output : List ℕ) (i : ℕ) {item : List ℕ} {size n start : ℕ} → Reads image i (length output) item
     → size ≡ size_of item → n ≡ rounded_up size → start ≡ entry_address (i + 1)
@@ -114,3 +119,21 @@ data_read image output i {item} {size} {n} {start} reads s r a =
     let long : start + n - start ≡ n = omega arith in
     let sized : size ≡ size_of (entry_at image i) = s ∙ ap size_of reads.same in
     (rw (reads.passed, sized), rw (reads.passed, long, r, a, sized))
+
+-- ---- a part of the image, copied
+
+pub length_part : (image : List ℕ) (start n : ℕ) → start + n ≤ length image
+    → length (take (start + n - start) (drop start image)) ≡ n
+length_part image start n h = simp (length-take, length-drop) (omega arith)
+
+pub part_copied : (image output : List ℕ) (start n : ℕ) → start + n ≤ length image
+    → let part = take (start + n - start) (drop start image) in
+    part ++ drop (length part) output ≡ take n (drop start image) ++ drop n output
+part_copied image output start n h =
+    let e : start + n - start ≡ n = omega arith in
+    rw (length_part image start n h, e)
+
+-- after k bytes the output is as long as before
+pub length_copied : (part into : List ℕ) (k : ℕ) → k ≤ length part → k ≤ length into
+    → length (take k part ++ drop k into) ≡ length into
+length_copied part into k inside room = simp (length-append, length-take, length-drop) (omega arith)

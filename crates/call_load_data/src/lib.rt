@@ -1,7 +1,7 @@
 // Reading the data after an item's header out of a sector (page.rs): load data.
 #![tactic(auto)]
 
-ghost use Rattle.std.specs.Prelude.{◌≡◌, ◌^◌, ◌<◌, length};
+ghost use Rattle.std.specs.Prelude.{◌≡◌, ◌^◌, ◌<◌, ◌≤◌, ◌++◌, length, drop};
 ghost use Rattle.sector.specs.Answers.{refusal, value_where_done};
 ghost use Rattle.sector.specs.Layout.{entries_per_page};
 ghost use Rattle.call_load_data.specs.Payload.{rounded_up, payload_checks, data_answer, data_output};
@@ -41,6 +41,18 @@ fn payload_refusal(entry: [u8; 32], index: usize, room: usize) -> Result<(), Ref
     Ok(())
 }
 
+// The bytes of a part go to the start of the output; its rest stays.
+//
+// A loop: the library's `copy_from_slice` would have the archive for C ask for `memmove`, which it needs nowhere else.
+fn copy_to(part: &[u8], output: &mut [u8])
+    requires { length part.now ≤ length output.old }
+    ensures { output.new ≡ part.now ++ drop (length part.now) output.old }
+{
+    for (k, byte) in part.iter().enumerate() {
+        output[k] = *byte;
+    }
+}
+
 // The data after an item's header, to the start of the output, and its size
 // (`ThinPage::load_referenced_data_into`). The output gets the size rounded up to 4 bytes, its rest stays.
 // The payload's CRC is not checked.
@@ -62,7 +74,6 @@ pub fn load_referenced_data_into(
     let size = layout::size_of(item);
     let read = rounded_up(size);
     let start = layout::entry_address(index + 1);
-    let data = &image[start..start + read];
-    output[..read].copy_from_slice(data);
+    copy_to(&image[start..start + read], output);
     Ok(size)
 }
