@@ -62,6 +62,16 @@ pub fn give_item(buffer: &mut [u8], loaded: Result<[u8; 32], Refusal>) -> u32
     }
 }
 
+// Lays out a record beside an answer, whatever the two are, and hands back the answer's number in document 01.
+pub fn hand_out(buffer: &mut [u8], answer: Result<(), Refusal>, given: &ThinPage) -> u32
+    requires { length buffer.old ≡ record_size }
+    ensures number { result ≡ number_of answer }
+    ensures buffer { buffer.new ≡ record_bytes given.now }
+{
+    boundary_encoding::put_record(given, buffer);
+    answers::number_of(answer) as u32
+}
+
 // Lays out the record that opening hands back, the Uninitialized one with a refusal and a stop, and hands back its number in
 // document 01.
 pub fn hand_opened(buffer: &mut [u8], opened: Result<ThinPage, Refusal>) -> u32
@@ -70,14 +80,8 @@ pub fn hand_opened(buffer: &mut [u8], opened: Result<ThinPage, Refusal>) -> u32
     ensures buffer { buffer.new ≡ record_bytes (value_in uninitialized opened) }
 {
     match opened {
-        Ok(page) => {
-            boundary_encoding::put_record(&page, buffer);
-            0
-        }
-        Err(refusal) => {
-            boundary_encoding::put_record(&ThinPage::uninitialized(), buffer);
-            refusal.number() as u32
-        }
+        Ok(page) => hand_out(buffer, Ok(()), &page),
+        Err(refusal) => hand_out(buffer, Err(refusal), &ThinPage::uninitialized()),
     }
 }
 
