@@ -1,6 +1,8 @@
 // What the programs print of an answer, and of a test.
 #![tactic(auto)]
 
+ghost use Rattle.std.specs.Prelude.{◌≡◌, cond, codes};
+
 use sector::{Refusal, answers};
 use std::fmt;
 
@@ -20,6 +22,8 @@ impl<T: Copy> fmt::Display for Numbered<T> {
 }
 
 // What stands before the word for what holds, or does not.
-pub fn not_unless(holds: bool) -> &'static str {
+pub fn not_unless(holds: bool) -> &'static str
+    ensures { result.now ≡ cond holds (codes "") (codes "not ") }
+{
     if holds { "" } else { "not " }
 }
