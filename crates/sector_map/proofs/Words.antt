@@ -4,7 +4,7 @@
 -- state at a pair.
 use mathlib.Core.Path.{◌≡◌, refl, sym, ap, ap₂, ◌∙◌}
 use mathlib.Core.Bool.{Bool, true, false, cond}
-use mathlib.Core.List.{List, ◌∷◌, ◌++◌}
+use mathlib.Core.List.{List, [], ◌∷◌, ◌++◌}
 use Prim.Native.Nat.{ℕ, zero, suc, ◌+◌, ◌*◌, ◌/◌, ◌%◌, ◌^◌, ◌<◌, ◌≤◌}
 use native.Mathlib.Nat.{add_comm, lt_of_le_of_lt}
 use native.Mathlib.Omega.{arith}
@@ -140,7 +140,7 @@ ones_masked s (suc k) word =
     ∙ ap₂ (λ (x y : ℕ). x + y) (ones_masked s k rest) (one_entry s bits small)
     ∙ add_comm (count_in s (word_states k rest)) (cond (same_state s (state_of_bits bits)) 1 0)
 
-masked_small : (s : EntryMapState) (mask word : ℕ) → mask < 2 ^ 64 → ones (masked s mask word) ≤ 64
+pub masked_small : (s : EntryMapState) (mask word : ℕ) → mask < 2 ^ 64 → ones (masked s mask word) ≤ 64
 masked_small s mask word h = ones-le 64 (masked s mask word) (rw (masked_sides s mask word) (and_lt 64 _ _ (side_small (upper s) (and_le_r (word / 2) mask)) (side_small (lower s) (and_le_r word mask))))
   where
     side_small : (kept : Bool) {bits : ℕ} → bits ≤ mask → side kept mask bits < 2 ^ 64
@@ -155,6 +155,15 @@ unfolding word_statistics
 word_counts_small mask word h = (masked_small Empty mask word h, masked_small Written mask word h, masked_small Erased mask word h, masked_small Illegal mask word h)
 
 -- ---- the bytes of a word
+
+-- the number of eight bytes, by its two halves
+pub number_append : (xs ys : List ℕ) → length xs ≡ 4 → number (xs ++ ys) ≡ number xs + 0x1_0000_0000 * number ys
+number_append (a ∷ b ∷ c ∷ d ∷ []) ys h = omega arith
+number_append [] ys h = absurd (omega arith)
+number_append (a ∷ []) ys h = absurd (omega arith)
+number_append (a ∷ b ∷ []) ys h = absurd (omega arith)
+number_append (a ∷ b ∷ c ∷ []) ys h = absurd (omega arith)
+number_append (a ∷ b ∷ c ∷ d ∷ e ∷ xs) ys h = absurd (omega arith)
 
 -- the four entries of each byte
 pub word_bytes : {bytes : List ℕ} → Bytes bytes → word_states (4 * length bytes) (number bytes) ≡ unpack bytes
