@@ -1,4 +1,4 @@
--- Laws of the readings: what a call answers by its checks, and what load's checks leave known.
+-- Laws of the readings: what a call answers by its checks, and what the checks leave known.
 use mathlib.Core.Path.{◌≡◌, refl, sym, ap, ◌∙◌}
 use mathlib.Core.Bool.{true, false}
 use mathlib.Core.List.{List, [], ◌∷◌, ◌++◌}
@@ -11,7 +11,7 @@ use Rattle.sector.specs.declared.Refusal.TheVariants.{Stopped}
 use Rattle.sector.specs.Answers.{Answer, Check, refusal, accepted, value_where_done}
 use Rattle.sector.specs.Layout.{sector_size, entries_per_page}
 use Rattle.sector.proofs.Laws.{accepted_at, accepted_done, accepted_refused, refusal_refused, refusal_passed}
-use Rattle.call_load.specs.Load.{load_checks, loaded_or}
+use Rattle.call_load.specs.Load.{entry_checks, load_checks, loaded_or}
 
 -- ---- what a call answers
 
@@ -55,8 +55,16 @@ read_refusal [] entry e = absurd cc
 read_refusal ((true, refused) ∷ checks) entry e = cc
 read_refusal ((false, refused) ∷ checks) entry e = read_refusal checks entry e
 
--- ---- what passes load's checks
+-- ---- what passes the checks
 
+-- raw read's
+pub entry_fits : (image : List ℕ) (i : ℕ) → accepted (entry_checks image i) ≡ true
+    → (length image ≡ sector_size) × (i < entries_per_page)
+entry_fits image i h =
+    let at : (n : ℕ) → (get_or (entry_checks image i) n (false, Stopped)).0 ≡ false = λ n. accepted_at (entry_checks image i) n h in
+    (eqb-true _ _ (not-false _ (at 0)), ltb-true _ _ (not-false _ (at 1)))
+
+-- load's
 pub load_fits : (image : List ℕ) (i : ℕ) → accepted (load_checks image i) ≡ true
     → (length image ≡ sector_size) × (i < entries_per_page)
 load_fits image i h =

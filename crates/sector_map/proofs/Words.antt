@@ -156,7 +156,7 @@ word_counts_small mask word h = (masked_small Empty mask word h, masked_small Wr
 
 -- ---- the bytes of a word
 
--- the number of eight bytes, by its two halves
+-- the number of bytes in two parts, the first of four
 pub number_append : (xs ys : List ℕ) → length xs ≡ 4 → number (xs ++ ys) ≡ number xs + 0x1_0000_0000 * number ys
 number_append (a ∷ b ∷ c ∷ d ∷ []) ys h = omega arith
 number_append [] ys h = absurd (omega arith)
