@@ -53,7 +53,7 @@ part_archive() {
     rm -f "$archive"
     boundary/archive.sh "$archive" || return
     # What the firmware that links it has to bring.
-    command -v nm || { note='nm is not at hand, and its needs were not looked at'; return 0; }
+    command -v nm || { note='nm is not at hand, so what it needs was not looked at'; return 0; }
     needs=$(nm -u "$archive" | awk '$1 == "U" { print $2 }' | sort -u | tr '\n' ' ')
     echo "the archive needs: $needs"
     [ "$needs" = 'memcpy memset ' ]
